@@ -13,7 +13,8 @@ use Rattle.m2v_audit.specs.declared.headers.PieceHeader.{PieceHeader}
 use Rattle.m2v_audit.specs.declared.headers.PieceHeader.TheVariants as headers
 use Rattle.m2v_audit.specs.Account.{Account}
 use Rattle.m2v_audit.specs.Front.{front_of}
-use Rattle.m2v_audit.specs.Auditing.{Auditing, longer, begun, begun_by, with_header, sequences_of, with_headers, coded, counted, with_told, with_place, with_note, settled_by, fronted, pictured, after_piece}
+use Rattle.m2v_audit.specs.Others.{others_of}
+use Rattle.m2v_audit.specs.Auditing.{Auditing, longer, begun, begun_by, with_header, sequences_of, with_headers, coded, counted, with_told, with_place, with_note, settled_by, fronted, with_others, pictured, with_ending, after_piece}
 
 by_place : (is_frame : Bool) (a b : Auditing) (n : ℕ) → a.bytes ≡ n → b.bytes ≡ n → (if is_frame then a else b).bytes ≡ n
 by_place true a b n x y = x
@@ -56,7 +57,7 @@ bytes_after a place piece notes =
     let b : Auditing = longer (length piece) a in
     let c : Auditing = fronted b place piece notes in
     let d : Auditing = pictured c place (length piece) (zeros_last piece) notes.picture in
-    settling d d.account
+    settling (with_ending place piece (with_others c.pictures (others_of place piece) d)) d.account
     ∙ noting c c.sequence notes.picture place (length piece) (zeros_last piece)
     ∙ all_headers (begun b.first b place notes) notes.sequences 0 (front_of place piece)
     ∙ beginning b.first b place notes

@@ -4,6 +4,7 @@ pub mod Telling
 pub mod Reports
 pub mod Counting
 pub mod Placed
+pub mod OtherLaws
 pub mod Showing
 pub mod Beginning
 pub mod ZeroLaws
@@ -12,6 +13,7 @@ pub mod LeadLaws
 pub mod PieceSteps
 pub mod PieceTelling
 pub mod TextSteps
+pub mod FeedLaws
 pub mod TextEnds
 pub mod TextReports
 pub mod AllTexts

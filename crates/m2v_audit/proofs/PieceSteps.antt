@@ -10,7 +10,7 @@ use Rattle.m2v_model.specs.ByPieces.{Between, Course, piece_read, end_read}
 use Rattle.m2v_dec_piece.specs.declared.answer.DecodeError.TheVariants as errors
 use Rattle.m2v_dec_piece.specs.Cutting.{PieceStops, Passes}
 use Rattle.m2v_audit.specs.Auditing.{Auditing, cleared, after_piece}
-use Rattle.m2v_audit.specs.Audited.{Audited, Telling, then_comes, by_fault, by_limit, limit_at, unless_passed, piece_told, end_told, pieces_told}
+use Rattle.m2v_audit.specs.Audited.{Audited, Telling, then_comes, begins_another, by_fault_in, by_limit, limit_at, unless_passed, piece_told, end_told, pieces_told}
 
 -- ---- limits
 
@@ -65,27 +65,27 @@ pub piece_step : (x : Telling) (optional : Bool) (a : Auditing) (b b' : Between)
     → pieces_told x optional a b at (p ∷ ps) ≡ then_comes (after_piece a at p notes).report.text (pieces_told x false (cleared (after_piece a at p notes)) b' (at + length p) ps)
 unfolding pieces_told
 piece_step x optional a b b' at p ps es notes le fits read is =
-    let go : Option Limit → Course → Audited = λ l c. unless_passed l x.totals a (piece_told x a at p c (λ a' b'. pieces_told x false a' b' (at + length p) ps)) in
+    let go : Option Limit → Course → Audited = λ l c. unless_passed l x a (piece_told x a at p ps c (λ a' b'. pieces_told x false a' b' (at + length p) ps)) in
     ap (λ (l : Option Limit). go l (piece_read b (at + length p) p)) (fits_at at p ps le fits)
     ∙ ap (go None) read
     ∙ ap (λ (n : PieceNotes). then_comes (after_piece a at p n).report.text (pieces_told x false (cleared (after_piece a at p n)) b' (at + length p) ps)) (sym is)
 
 -- the next piece has a fault
 pub piece_fault : (x : Telling) (optional : Bool) (a : Auditing) (b : Between) (at : ℕ) (p : List ℕ) (ps : List (List ℕ)) (f : FaultKind × ℕ) → at ≤ most_input → limit at 0 p ≡ None
-    → piece_read b (at + length p) p ≡ Err f → pieces_told x optional a b at (p ∷ ps) ≡ by_fault x.totals a f
+    → piece_read b (at + length p) p ≡ Err f → pieces_told x optional a b at (p ∷ ps) ≡ by_fault_in (begins_another a at p f.1) x a at p ps f
 unfolding pieces_told
 piece_fault x optional a b at p ps f le fits read =
-    let go : Option Limit → Course → Audited = λ l c. unless_passed l x.totals a (piece_told x a at p c (λ a' b'. pieces_told x false a' b' (at + length p) ps)) in
+    let go : Option Limit → Course → Audited = λ l c. unless_passed l x a (piece_told x a at p ps c (λ a' b'. pieces_told x false a' b' (at + length p) ps)) in
     ap (λ (l : Option Limit). go l (piece_read b (at + length p) p)) (fits_at at p ps le fits) ∙ ap (go None) read
 
 -- a limit is passed
-pub limit_step : (x : Telling) (optional : Bool) (a : Auditing) (b : Between) (at : ℕ) (ps : List (List ℕ)) (l : Limit) → limit_at at ps ≡ Some l → pieces_told x optional a b at ps ≡ by_limit x.totals a l
+pub limit_step : (x : Telling) (optional : Bool) (a : Auditing) (b : Between) (at : ℕ) (ps : List (List ℕ)) (l : Limit) → limit_at at ps ≡ Some l → pieces_told x optional a b at ps ≡ by_limit x a l
 unfolding pieces_told
-limit_step x optional a b at [] l e = ap (λ (o : Option Limit). unless_passed o x.totals a (end_told x optional a at (end_read b at))) e
+limit_step x optional a b at [] l e = ap (λ (o : Option Limit). unless_passed o x a (end_told x optional a at (end_read b at))) e
 limit_step x optional a b at (p ∷ ps) l e =
-    ap (λ (o : Option Limit). unless_passed o x.totals a (piece_told x a at p (piece_read b (at + length p) p) (λ a' b'. pieces_told x false a' b' (at + length p) ps))) e
+    ap (λ (o : Option Limit). unless_passed o x a (piece_told x a at p ps (piece_read b (at + length p) p) (λ a' b'. pieces_told x false a' b' (at + length p) ps))) e
 
 -- no piece is left
 pub end_step : (x : Telling) (optional : Bool) (a : Auditing) (b : Between) (at : ℕ) → at ≤ most_input → pieces_told x optional a b at [] ≡ end_told x optional a at (end_read b at)
 unfolding pieces_told
-end_step x optional a b at le = ap (λ (o : Option Limit). unless_passed o x.totals a (end_told x optional a at (end_read b at))) (none_at at le)
+end_step x optional a b at le = ap (λ (o : Option Limit). unless_passed o x a (end_told x optional a at (end_read b at))) (none_at at le)

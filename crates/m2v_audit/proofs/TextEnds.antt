@@ -1,5 +1,5 @@
 -- The end of a text: it is skipped, its sequence ends there, or it has a fault.
-use Rattle.std.proofs.Common.{◌≡◌, ◌⊎◌, inl, inr, ℕ, ◌*◌, ◌<◌, Bool, true, false, [], Ok, Err, refl, sym, ap, ◌∙◌}
+use Rattle.std.proofs.Common.{◌≡◌, ◌⊎◌, inl, inr, ℕ, ◌*◌, ◌<◌, ◌≤◌, Bool, true, false, [], Ok, Err, refl, sym, ap, ◌∙◌}
 use Rattle.m2v_port.specs.Ends.{Change}
 use Rattle.m2v_bits.specs.Syntax.{seq, bind, rule, done}
 use Rattle.m2v_model.specs.declared.fault.FaultKind.TheVariants.{NoSequence}
@@ -42,7 +42,7 @@ module _ (left held : Change) (later : Bool) (a : Auditing) (c : Cutting) (a' : 
     some = λ same. some_is t.some;
   }
     where
-      some_is : (c.place < c'.place) ⊎ ((false ≡ later) × (between t.decoder ≡ at_start)) → c.place < c'.place
+      some_is : (c.place < c'.place) ⊎ ((false ≡ later) × (between t.decoder ≡ at_start) × (c.place ≤ c'.place)) → c.place < c'.place
       some_is (inl lt) = lt
       some_is (inr none) =
           let ok : end_read at_start c'.place ≡ Ok ([], between d) = ap (λ (b : Between). end_read b c'.place) (sym none.1) ∙ f.read in
@@ -50,11 +50,22 @@ module _ (left held : Change) (later : Bool) (a : Auditing) (c : Cutting) (a' : 
           absurd cc
 
   -- it has a fault there
-  pub ends_fault : (t : AreTold left held later a c false a' r' c') (f : Fault) → end_read (between t.decoder) c'.place ≡ Err (f.kind, f.place) → TextStops left held (pieces_from later a at_start c) a' (errors.Stream f)
-  ends_fault t f e = record {
-    bytes = t.leads.bytes;
-    moved = t.leads.moved;
-    lines = t.leads.lines;
-    grown = t.leads.grown;
-    told = λ rest q x. t.leads.told rest q x ∙ ap (λ (r : Course). then_comes t.leads.lines (end_told x false a' c'.place r)) e;
+  pub ends_fault : (t : AreTold left held later a c false a' r' c') (f : Fault) → c'.failed ≡ false → end_read (between t.decoder) c'.place ≡ Err (f.kind, f.place) → TextStops left held (pieces_from later a at_start c) later c a' c' (errors.Stream f)
+  ends_fault t f going e = record {
+    pieces = λ rest. [];
+    leads = record {
+      bytes = t.leads.bytes;
+      moved = t.leads.moved;
+      lines = t.leads.lines;
+      grown = t.leads.grown;
+      told = λ rest q x. t.leads.told rest q x ∙ ap (λ (r : Course). then_comes t.leads.lines (end_told x false a' c'.place r)) e;
+    };
+    text = t.text;
+    place = t.place;
+    some = some_far t.some;
+    going = going;
   }
+    where
+      some_far : (c.place < c'.place) ⊎ ((false ≡ later) × (between t.decoder ≡ at_start) × (c.place ≤ c'.place)) → (c.place < c'.place) ⊎ ((later ≡ false) × (c.place ≤ c'.place))
+      some_far (inl lt) = inl lt
+      some_far (inr none) = inr (sym none.0, none.2)

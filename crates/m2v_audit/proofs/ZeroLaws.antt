@@ -1,11 +1,13 @@
--- The zero bytes that end a piece, counted from its end.
+-- How a piece ends: its zero bytes, counted from its end, and the sequence end code.
 use Rattle.std.proofs.Common.{◌≡◌, ℕ, zero, suc, ◌+◌, ◌-◌, ◌<◌, ◌≤◌, ◌≢◌, List, [], ◌∷◌, ◌++◌, length, take, replicate, refl, sym, ap, ◌∙◌, arith}
 use Rattle.std.specs.Prelude.{Bool, true, false, ◌&&◌, reverse, slice_index, nat_eq, nat_lt}
+use Rattle.std.specs.List.{ends_with}
 use Rattle.std.proofs.Math.Seq.{take-suc}
 use Rattle.std.proofs.lemmas.Bool.{ne_eqb, lt-ltb, eqb-true, eq-eqb, false≢true, true≢false}
-use Rattle.std.proofs.lemmas.List.{reverse-append}
+use Rattle.std.proofs.lemmas.List.{append-nil, reverse-append}
 use Rattle.m2v_model.specs.Pieces.{zeros_first, zeros_last}
 use Rattle.m2v_dec_piece.proofs.TrimLaws.{reverse_zeros}
+use Rattle.m2v_audit.specs.Auditing.{ends_code}
 
 -- ---- byte by byte
 
@@ -31,6 +33,20 @@ pub zeros_of_whole : (bytes : List ℕ) (n : ℕ) → zeros_last (bytes ++ repli
 zeros_of_whole bytes n =
     ap zeros_first (reverse-append bytes (replicate n 0) ∙ ap (λ (x : List ℕ). x ++ reverse bytes) (reverse_zeros n))
     ∙ zeros_more n (reverse bytes)
+
+-- a piece that doesn't end in a zero byte has all that was kept of it, and nothing else
+all_kept : (bytes : List ℕ) (n : ℕ) → zeros_last (bytes ++ replicate n 0) ≡ 0 → bytes ++ replicate n 0 ≡ bytes
+all_kept bytes zero none = append-nil bytes
+all_kept bytes (suc n) none = let is = zeros_of_whole bytes (suc n) in absurd (omega (arith, none, is))
+
+pub ends_so : (bytes : List ℕ) (n ending : ℕ) (ends : Bool) → ending ≡ zeros_last (bytes ++ replicate n 0) → ending ≡ 0
+    → ends ≡ ends_with nat_eq bytes (0 ∷ 0 ∷ 1 ∷ 0xB7 ∷ []) → ends ≡ ends_code (bytes ++ replicate n 0)
+ends_so bytes n ending ends are none is =
+    let whole = bytes ++ replicate n 0 in
+    let code : List ℕ = 0 ∷ 0 ∷ 1 ∷ 0xB7 ∷ [] in
+    let last : zeros_last whole ≡ 0 = sym are ∙ none in
+    is ∙ ap (λ (xs : List ℕ). ends_with nat_eq xs code) (sym (all_kept bytes n last))
+    ∙ ap (λ (m : ℕ). nat_eq m 0 && ends_with nat_eq whole code) (sym last)
 
 -- ---- the loop
 

@@ -1,5 +1,6 @@
 -- A sequence that is audited, piece by piece: what is kept of it, and what each piece tells.
 use Rattle.std.specs.Prelude.{ℕ, ◌+◌, ◌-◌, ◌*◌, ◌≤◌, ◌≡◌, ◌^◌, ◌++◌, Bool, true, false, ◌&&◌, not, nat_eq, if◌then◌else◌, List, [], ◌∷◌, length, slice_get, is_some, Option, Some, None}
+use Rattle.std.specs.List.{ends_with}
 use Rattle.std.specs.Option.{option_map}
 use Rattle.m2v_model.specs.m2v_macroblock.m2v_head.declared.sequence.SequenceInfo.{SequenceInfo}
 use Rattle.m2v_model.specs.m2v_macroblock.m2v_head.declared.sequence.SequenceExtension.{SequenceExtension}
@@ -14,23 +15,35 @@ use Rattle.m2v_strict.specs.m2v_check.declared.coded.CodedPicture.{CodedPicture}
 use Rattle.m2v_strict.specs.m2v_check.Breaking.{numbered_of}
 use Rattle.m2v_strict.specs.m2v_check.Running.{ends_frame}
 use Rattle.m2v_strict.specs.declared.rule_set.RuleSet.{RuleSet}
+use Rattle.m2v_strict.specs.declared.leading.Leading.{Leading}
+use Rattle.m2v_strict.specs.declared.parity.Parity.{Parity}
+use Rattle.m2v_strict.specs.declared.parity.ShownFrame.{ShownFrame}
+use Rattle.m2v_strict.specs.declared.preceding.Arrival.{Arrival}
+use Rattle.m2v_strict.specs.declared.preceding.Preceding.{Preceding}
 use Rattle.m2v_strict.specs.declared.runs.Runs.{Runs}
 use Rattle.m2v_strict.specs.Remarks.{Remarks}
 use Rattle.m2v_strict.specs.SequenceRules.{level_remarks, header_rule, extension_rule, sequence_warnings}
-use Rattle.m2v_strict.specs.GroupRules.{group_remarks}
+use Rattle.m2v_strict.specs.GroupRules.{group_remarks, broken_link_warning}
+use Rattle.m2v_strict.specs.TimeRules.{time_warnings}
+use Rattle.m2v_strict.specs.ParityRules.{shown_frame, has_parity, parity_warning, no_parity, shown_with, parity_with}
 use Rattle.m2v_strict.specs.PictureRules.{delay_remarks, f_code_rule, full_pel_rule, field_rule, frame_remarks, picture_warnings}
+use Rattle.m2v_strict.specs.ArrivalRules.{arrival_rule}
+use Rattle.m2v_strict.specs.OrderRules.{sequence_order_rule, group_order_rule, first_type_rule, end_remarks}
 use Rattle.m2v_strict.specs.DvdRules.{no_runs, runs_at_group, runs_with}
 use Rattle.m2v_strict.specs.SetRules.{set_remarks, set_group_remarks, set_picture_remarks}
 use Rattle.m2v_vbv.specs.Buffer.{Buffer}
 use Rattle.m2v_audit.specs.declared.asked.Asked.{Asked}
 use Rattle.m2v_audit.specs.declared.account.Due.{Due}
 use Rattle.m2v_audit.specs.declared.auditing.Auditing.{Auditing}
+use Rattle.m2v_audit.specs.declared.auditing.PieceEnd.{PieceEnd}
 use Rattle.m2v_audit.specs.declared.headers.PieceHeader.{PieceHeader}
 use Rattle.m2v_audit.specs.declared.headers.PieceHeader.TheVariants as headers
+use Rattle.m2v_audit.specs.declared.others.Other.{Other}
 use Rattle.m2v_audit.specs.declared.places.Waiting.{Waiting}
 use Rattle.m2v_audit.specs.declared.records.SequenceRecord.{SequenceRecord}
 use Rattle.m2v_audit.specs.declared.records.GroupRecord.{GroupRecord}
 use Rattle.m2v_audit.specs.declared.records.PictureRecord.{PictureRecord}
+use Rattle.m2v_audit.specs.declared.remarks.Behind.{Behind}
 use Rattle.m2v_audit.specs.declared.report.Rate.{Rate}
 use Rattle.m2v_audit.specs.declared.report.SequenceTotals.{SequenceTotals}
 use Rattle.m2v_audit.specs.declared.words.PictureType.{PictureType}
@@ -41,6 +54,7 @@ use Rattle.m2v_audit.specs.declared.words.Structure.TheVariants as structures
 use Rattle.m2v_audit.specs.Account.{Account, opened, with_picture as account_with, with_more as account_more, settled, after_settled, ended as all_left}
 use Rattle.m2v_audit.specs.Findings.{with_breaches, with_remarks, with_misplaced, with_removals}
 use Rattle.m2v_audit.specs.Front.{front_of}
+use Rattle.m2v_audit.specs.Others.{others_of, display_of, with_own_remarks, headed_remarks, display_behind}
 use Rattle.m2v_audit.specs.Opening.{kind_of, first_buffer}
 use Rattle.m2v_audit.specs.Places.{no_places, with_field, with_frame, told_with_frame, group_closed, told_at_close}
 use Rattle.m2v_audit.specs.Report.{Report, no_tally, one_more, with_begin, with_group_line, with_picture_line, with_end}
@@ -58,6 +72,7 @@ abbrev pub nothing : ℕ → Asked → ℕ → Auditing
 nothing number asked start = record {
   report = record { text = []; tally = no_tally; sequence = number; pictures = asked.pictures };
   rules = asked.rules;
+  like = asked.first;
   start = start;
   first = None;
   sequence = None;
@@ -68,10 +83,15 @@ nothing number asked start = record {
   groups = 0;
   frames = 0;
   bytes = 0;
+  last = None;
   constant = true;
   places = no_places false;
+  parity = no_parity false;
+  group = None;
+  display = None;
   times = first_times false 0;
   rate = no_rate;
+  arrival = None;
   account = None;
 }
 
@@ -119,6 +139,7 @@ with_first a place s n = record a {
   report = with_begin a.report (place - a.start) a.start (sequence_record a.report.sequence (8 * place) s (kind_of s n));
   first = Some s;
   places = no_places s.extension.low_delay;
+  parity = no_parity s.extension.low_delay;
   times = first_times s.extension.low_delay s.info.frame_rate_code;
   rate = rate_with s n;
 }
@@ -134,23 +155,29 @@ begun None a place notes = begun_by a place (slice_get notes.sequences 0) notes.
 
 -- ---- headers
 
--- what a set of rules remarks of a sequence header
-abbrev pub with_set_remarks : Report → RuleSet → ℕ → ℕ → Sequence → Report
-with_set_remarks r rules picture bit s = with_remarks r picture bit (set_remarks rules s)
+-- what a set of rules remarks of a sequence header, beside the first one of all, where it is of another sequence
+abbrev pub with_set_remarks : Report → RuleSet → Option Sequence → ℕ → ℕ → Sequence → Report
+with_set_remarks r rules like picture bit s = with_remarks r picture bit (set_remarks rules like s)
 
--- what the stricter rules remark of a sequence header, beside the first one of its sequence
-abbrev pub with_sequence_remarks : Report → RuleSet → ℕ → ℕ → Sequence → Sequence → Report
-with_sequence_remarks r rules picture bit first s =
+-- which headers came since the last picture
+abbrev pub leading : Auditing → Leading
+leading a = record { sequence = a.headed; group = a.first_in_group }
+
+-- what the stricter rules remark of a sequence header behind these headers, beside the first one of its sequence, and by its set
+-- beside the first one of all
+abbrev pub with_sequence_remarks : Report → RuleSet → Option Sequence → Leading → ℕ → ℕ → Sequence → Sequence → Report
+with_sequence_remarks r rules like before picture bit first s =
     let level = with_remarks r picture bit (level_remarks s) in
     let header = with_remarks level picture bit (header_rule first s) in
     let extension = with_remarks header picture bit (extension_rule first s) in
-    with_set_remarks (with_remarks extension picture bit (sequence_warnings rules s)) rules picture bit s
+    let order = with_remarks extension picture bit (sequence_order_rule before) in
+    with_set_remarks (with_remarks order picture bit (sequence_warnings rules s)) rules like picture bit s
 
 -- a sequence header at a bit of the input: the verifier's rules, by number, and then the stricter ones
 abbrev pub with_sequence : Auditing → ℕ → Sequence → Auditing
 with_sequence a bit s = record a {
   report =
-      with_sequence_remarks (with_breaches a.report a.pictures bit (sequence_breaches (s ∷ []))) a.rules a.pictures bit
+      with_sequence_remarks (with_breaches a.report a.pictures bit (sequence_breaches (s ∷ []))) a.rules a.like (leading a) a.pictures bit
       (first_or a.first s) s;
   sequence = Some s;
   headed = true;
@@ -171,15 +198,23 @@ group_record number group bit picture g = record {
   broken = g.broken_link;
 }
 
--- what the stricter rules remark of a group header, in a sequence with this header
-abbrev pub with_group_remarks : Report → RuleSet → Bool → ℕ → ℕ → Sequence → GroupInfo → Report
-with_group_remarks r rules headed picture bit s g =
-    with_remarks (with_remarks r picture bit (group_remarks s.info.frame_rate_code g)) picture bit (set_group_remarks rules headed)
+-- what stands before a group header
+abbrev pub behind : Auditing → Behind
+behind a = record { headers = leading a; group = a.group; fields = a.runs.fields }
+
+-- what the stricter rules remark of a group header behind these, in a sequence with this header
+abbrev pub with_group_remarks : Report → RuleSet → Behind → ℕ → ℕ → Sequence → GroupInfo → Report
+with_group_remarks r rules before picture bit s g =
+    let order = with_remarks r picture bit (group_order_rule before.headers) in
+    let numbers = with_remarks order picture bit (group_remarks s.info.frame_rate_code g) in
+    let times = with_remarks numbers picture bit (time_warnings s.info.frame_rate_code before.group before.fields g) in
+    let links = with_remarks times picture bit (broken_link_warning g) in
+    with_remarks links picture bit (set_group_remarks rules before.headers.sequence)
 
 -- the same, where a sequence header came
-abbrev pub with_group_by : Report → RuleSet → Bool → ℕ → ℕ → Option Sequence → GroupInfo → Report
-with_group_by r rules headed picture bit None g = r
-with_group_by r rules headed picture bit (Some s) g = with_group_remarks r rules headed picture bit s g
+abbrev pub with_group_by : Report → RuleSet → Behind → ℕ → ℕ → Option Sequence → GroupInfo → Report
+with_group_by r rules before picture bit None g = r
+with_group_by r rules before picture bit (Some s) g = with_group_remarks r rules before picture bit s g
 
 -- a group header: the group before it ends, and with it what waits for rule 11 is told; then the group, and its rules
 abbrev pub with_group : Auditing → ℕ → GroupInfo → Auditing
@@ -187,8 +222,9 @@ with_group a bit g = record a {
   report =
       with_group_by
       (with_group_line (with_misplaced a.report (told_at_close a.places)) (group_record a.report.sequence a.groups bit a.pictures g))
-      a.rules a.headed a.pictures bit a.sequence g;
+      a.rules (behind a) a.pictures bit a.sequence g;
   first_in_group = true;
+  group = Some g;
   runs = runs_at_group a.runs;
   groups = one_more a.groups;
   places = group_closed a.places;
@@ -231,7 +267,6 @@ is_shown n = ends_frame n && not n.dropped
 -- it is counted
 abbrev pub counted : Auditing → CodedPicture → Auditing
 counted a p = record a {
-  headed = false;
   first_in_group = false;
   pictures = a.pictures + 1;
   frames = if is_shown p.note then one_more a.frames else a.frames;
@@ -267,12 +302,18 @@ with_rules r constant p =
     with_breaches (with_breaches r p.number (bit_of p.note) (horizontal_rule n ++ vertical_rule n ++ intra_rule n))
     p.number (bit_of p.note) (crowd_rule n ++ repeat_rule constant n ++ progressive_rule n ++ precision_rule n)
 
--- what the stricter rules remark of a picture, rule after rule
-abbrev pub with_picture_remarks : Report → Bool → CodedPicture → Report
-with_picture_remarks r constant p =
+-- what comes before a picture that comes next, behind this sequence header
+abbrev pub preceding : Auditing → Sequence → Preceding
+preceding a s = record { headed = a.headed; rate = rate_of (first_or a.first s); picture = a.arrival }
+
+-- what the stricter rules remark of a picture behind these, rule after rule
+abbrev pub with_picture_remarks : Report → Preceding → Bool → CodedPicture → Report
+with_picture_remarks r before constant p =
     let with : Report → Remarks → Report = λ r ms. with_remarks r p.number (bit_of p.note) ms in
-    let delays = with r (delay_remarks constant p) in
-    let codes = with delays (f_code_rule p) in
+    let first = with r (first_type_rule before.headed p) in
+    let delays = with first (delay_remarks constant p) in
+    let arrivals = with delays (arrival_rule before.rate before.picture p) in
+    let codes = with arrivals (f_code_rule p) in
     let vectors = with codes (full_pel_rule p.note.info) in
     let fields = with vectors (field_rule constant p) in
     with (with fields (frame_remarks constant p)) (picture_warnings p)
@@ -282,8 +323,8 @@ abbrev pub with_set_picture_remarks : Report → RuleSet → Runs → CodedPictu
 with_set_picture_remarks r rules before p =
     with_remarks r p.number (bit_of p.note) (set_picture_remarks rules before p (fields_of p.sequence p.note))
 
-abbrev pub with_all_remarks : Report → RuleSet → Bool → Runs → CodedPicture → Report
-with_all_remarks r rules constant before p = with_set_picture_remarks (with_picture_remarks r constant p) rules before p
+abbrev pub with_all_remarks : Report → RuleSet → Preceding → Bool → Runs → CodedPicture → Report
+with_all_remarks r rules before constant runs p = with_set_picture_remarks (with_picture_remarks r before constant p) rules runs p
 
 -- where each picture is told its record; then its rules by number, but for 11: the verifier's, and then the stricter ones
 abbrev pub with_told : Auditing → CodedPicture → ℕ → ℕ → Auditing
@@ -291,7 +332,8 @@ with_told a p bytes zeros = record a {
   report =
       with_all_remarks
       (with_rules (with_picture_line a.report (picture_record a.report.sequence p bytes zeros)) a.constant p)
-      a.rules a.constant a.runs p;
+      a.rules (preceding a p.sequence) a.constant a.runs p;
+  headed = false;
   runs = runs_with a.runs p (fields_of p.sequence p.note);
 }
 
@@ -306,6 +348,23 @@ with_place a p =
       places = with_frame a.places (waiting_of p) (is_b p.note.info.kind);
     }
     else record a { places = with_field a.places (waiting_of p) }
+
+-- then the warning on the frame that is shown by it: none where no frame is
+abbrev pub with_shown : Report → Option Bool → Option ShownFrame → Report
+with_shown r last None = r
+with_shown r last (Some f) = with_remarks r f.picture f.bit (parity_warning last f)
+
+abbrev pub frame_at : CodedPicture → ShownFrame
+frame_at p = shown_frame p (bit_of p.note)
+
+abbrev pub told_of_fields : Report → Parity → CodedPicture → Report
+told_of_fields r o p = if has_parity p then with_shown r o.last (shown_with o (frame_at p) (is_b p.note.info.kind)) else r
+
+abbrev pub parity_behind : Parity → CodedPicture → Parity
+parity_behind o p = if has_parity p then parity_with o (frame_at p) (is_b p.note.info.kind) else o
+
+abbrev pub with_parity : Auditing → CodedPicture → Auditing
+with_parity a p = record a { report = told_of_fields a.report a.parity p; parity = parity_behind a.parity p }
 
 -- ---- the account
 
@@ -330,9 +389,14 @@ abbrev pub account_by : Option Account → Option Sequence → PictureNote → D
 account_by None first n d = if nat_eq d.number 0 then opened_by first n d else None
 account_by (Some x) first n d = Some (account_with x d)
 
+-- as the arrival of the next picture's bits asks for it
+abbrev pub arrived : PictureNote → Due → Arrival
+arrived n d = record { code_end = n.code_end; units = d.units; delay = d.delay }
+
 abbrev pub with_account : Auditing → CodedPicture → ℕ → ℕ → Auditing
 with_account a p place bytes = record a {
   times = times_after a.times p.sequence p.note;
+  arrival = Some (arrived p.note (due_of a p place bytes));
   account = account_by a.account a.first p.note (due_of a p place bytes);
 }
 
@@ -340,7 +404,7 @@ with_account a p place bytes = record a {
 
 -- a picture of a piece that begins at a byte of the input and has so many bytes, of which so many zero bytes end it
 abbrev pub with_coded : Auditing → CodedPicture → ℕ → ℕ → ℕ → Auditing
-with_coded a p place bytes zeros = with_account (with_place (with_told (counted a p) p bytes zeros) p) p place bytes
+with_coded a p place bytes zeros = with_account (with_parity (with_place (with_told (counted a p) p bytes zeros) p) p) p place bytes
 
 -- its picture behind a sequence header, or where it has none more bits of the picture before it
 abbrev pub with_note : Auditing → Option Sequence → Option PictureNote → ℕ → ℕ → ℕ → Auditing
@@ -359,13 +423,36 @@ settled_by a (Some x) = record a { report = with_removals a.report a.rate (settl
 abbrev pub with_settled : Auditing → Auditing
 with_settled a = settled_by a a.account
 
+-- the sequence display extension of a piece that begins at a byte of the input, behind its headers
+abbrev pub with_display : ℕ → List Other → Auditing → Auditing
+with_display place others a = record a {
+  report = with_remarks a.report a.pictures (8 * place) (headed_remarks a.headed a.display (display_of others));
+  display = display_behind a.headed a.display (display_of others);
+}
+
+-- what else stands before a picture's first slice
+abbrev pub with_others : ℕ → List Other → Auditing → Auditing
+with_others picture others a = record a { report = with_own_remarks a.report picture others }
+
 -- the headers of a piece that begins at a byte of the input, and before the first ones the sequence
 abbrev pub fronted : Auditing → ℕ → List ℕ → PieceNotes → Auditing
-fronted a place piece notes = with_headers (begun a.first a place notes) notes.sequences 0 (front_of place piece)
+fronted a place piece notes =
+    with_display place (others_of place piece) (with_headers (begun a.first a place notes) notes.sequences 0 (front_of place piece))
+
+-- a sequence end code (value B7) ends a piece, and no zero byte behind it
+abbrev pub ends_code : List ℕ → Bool
+ends_code piece = nat_eq (zeros_last piece) 0 && ends_with nat_eq piece (0 ∷ 0 ∷ 1 ∷ 0xB7 ∷ [])
+
+-- how a piece ends that begins at a byte of the input
+abbrev pub with_ending : ℕ → List ℕ → Auditing → Auditing
+with_ending place piece a = record a { last = Some (record { bit = 8 * (place + length piece); closed = ends_code piece }) }
 
 -- all that is told of a piece whose bytes are counted
 abbrev pub told : Auditing → ℕ → List ℕ → PieceNotes → Auditing
-told a place piece notes = with_settled (pictured (fronted a place piece notes) place (length piece) (zeros_last piece) notes.picture)
+told a place piece notes =
+    let front = fronted a place piece notes in
+    let behind = pictured front place (length piece) (zeros_last piece) notes.picture in
+    with_settled (with_ending place piece (with_others front.pictures (others_of place piece) behind))
 
 -- a piece that begins at a byte of the input, with what is noted of it
 unfoldable pub after_piece : Auditing → ℕ → List ℕ → PieceNotes → Auditing
@@ -381,10 +468,19 @@ abbrev pub with_left : Report → Rate → Option Account → Report
 with_left r rate None = r
 with_left r rate (Some x) = with_removals r rate (all_left x)
 
--- nothing follows: what waits for rule 11, the removals that are left, and what there was in all
+-- what the stricter rules remark of the end, behind these headers, where the last piece ends so
+abbrev pub with_end_remarks : Report → Leading → ℕ → Option PieceEnd → Report
+with_end_remarks r before picture None = r
+with_end_remarks r before picture (Some e) = with_remarks r picture e.bit (end_remarks before e.closed)
+
+-- nothing follows: what waits for rule 11 and for the warning on fields, the removals that are left, what the stricter rules
+-- remark of the end, and what there was in all
+abbrev pub with_waiting : Auditing → Report
+with_waiting a = with_shown (with_misplaced a.report (told_at_close a.places)) a.parity.last a.parity.anchor
+
 abbrev pub finished : Auditing → Auditing
 finished a = record a {
-  report = with_end (with_left (with_misplaced a.report (told_at_close a.places)) a.rate a.account) (totals_of a);
+  report = with_end (with_end_remarks (with_left (with_waiting a) a.rate a.account) (leading a) a.pictures a.last) (totals_of a);
   places = group_closed a.places;
   account = None;
 }

@@ -4,6 +4,7 @@ pub mod Account
 pub mod AccountWorked
 pub mod Report
 pub mod Front
+pub mod Others
 pub mod WorkedPiece
 pub mod Places
 pub mod Times
@@ -14,5 +15,7 @@ pub mod WorkedAuditing
 pub mod FaultWords
 pub mod Audited
 pub mod Leading
+pub mod Feeding
+pub mod WorkedTexts
 pub use Rattle.m2v_strict.specs.m2v_check
 pub use Rattle.m2v_strict.specs as m2v_strict

@@ -1,7 +1,8 @@
 -- The report of a sequence as it grows: each call appends its lines, and counts what they tell.
-use Rattle.std.specs.Prelude.{ℕ, zero, suc, ◌+◌, ◌-◌, ◌/◌, ◌^◌, min, max, Bool, ◌&&◌, not, nat_eq, nat_lt, if◌then◌else◌, List, ◌++◌, replicate, slice_index_or, slice_set, Option, Some, None}
+use Rattle.std.specs.Prelude.{ℕ, zero, suc, ◌+◌, ◌-◌, ◌/◌, ◌^◌, min, max, Bool, ◌&&◌, not, nat_eq, nat_le, nat_lt, if◌then◌else◌, List, ◌++◌, replicate, slice_index_or, slice_set, Option, Some, None}
 use Rattle.std.specs.Option.{unwrap_or}
 use Rattle.m2v_vbv.specs.declared.removed.Removed.{Removed}
+use Rattle.m2v_strict.specs.declared.element.Element.TheVariants as elements
 use Rattle.m2v_strict.specs.Remarks.{is_warning}
 use Rattle.m2v_audit.specs.declared.account.Due.{Due}
 use Rattle.m2v_audit.specs.declared.words.FailureKind.TheVariants as failures
@@ -187,7 +188,7 @@ over_of sequence rate d t = record {
 abbrev pub with_failure : Report → FailureRecord → Report
 with_failure r f = record r { text = r.text ++ failure_line f; tally = with_failing r.tally }
 
--- in turn: what is held, where each picture is told; what fails; and what is counted of it
+-- in turn: what is held, where each picture is told; what fails; the warning; and what is counted of it
 abbrev pub with_held : Report → Rate → Due → Removed → Report
 with_held r rate d t =
     if r.pictures then with_text r (held_line (held_of r.sequence rate d t)) else r
@@ -198,9 +199,31 @@ with_under r rate d t = if t.is_under then with_failure r (under_of r.sequence r
 abbrev pub with_over : Report → Rate → Due → Removed → Report
 with_over r rate d t = if t.is_over then with_failure r (over_of r.sequence rate d t) else r
 
+-- 54, a warning: at constant rate a delay that is more than a tick from that which the removal implies (C.3.1); the first one
+-- says when the account begins
+abbrev pub is_near : ℕ → ℕ → Bool
+is_near a b = nat_le a (b + 1) && nat_le b (a + 1)
+
+abbrev pub is_far : Bool → Due → Removed → Bool
+is_far constant d t = constant && not (nat_eq d.number 0) && (not (nat_eq d.delay 65535) && not (is_near d.delay t.delay))
+
+abbrev pub far_at : Due → Removed → Broken
+far_at d t = record {
+  picture = d.number;
+  bit = d.bit;
+  rule = 54;
+  element = Some elements.VbvDelay;
+  have = d.delay;
+  need = t.delay;
+}
+
+abbrev pub with_far : Report → Rate → Due → Removed → Report
+with_far r rate d t = if is_far rate.constant d t then with_warning r (far_at d t) else r
+
 abbrev pub with_removal : Report → Rate → Due → Removed → Report
 with_removal r rate d t =
-    let told = with_over (with_under (with_held r rate d t) rate d t) rate d t in
+    let failed = with_over (with_under (with_held r rate d t) rate d t) rate d t in
+    let told = with_far failed rate d t in
     record told { tally = with_due told.tally rate.constant d t }
 
 -- ---- the beginning of a sequence

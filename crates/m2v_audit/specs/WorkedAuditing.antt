@@ -98,7 +98,7 @@ last_notes = record { sequences = []; group = false; picture = None }
 
 -- the sequence begins at byte 100 of a text that begins at byte 90
 abbrev pub begun : Auditing
-begun = after_piece (nothing 0 (record { rules = sets.Main; pictures = true }) 90) 100 first_piece first_notes
+begun = after_piece (nothing 0 (record { rules = sets.Main; pictures = true; first = None }) 90) 100 first_piece first_notes
 
 abbrev pub over : Auditing
 over = ended (after_piece begun 140 last_piece last_notes)

@@ -1,7 +1,7 @@
 //! What is kept of a sequence that is audited, and how headers and pictures change it.
 ghost use Rattle.std.specs.Prelude.{◌≡◌, ◌≤◌, ◌<◌, ◌^◌, slice_get, OnOk};
 ghost use Rattle.m2v_model.specs.PieceNotes.{noted};
-ghost use Rattle.m2v_audit.specs.Auditing.{nothing, sequence_of, with_first, begun_by, begun, with_sequence, with_group_by, with_group, with_header, sequences_of, with_headers, Keeps};
+ghost use Rattle.m2v_audit.specs.Auditing.{nothing, sequence_of, with_first, begun_by, begun, leading, behind, with_sequence, with_group_by, with_group, with_header, sequences_of, with_headers, Keeps};
 
 use crate::account::Account;
 use crate::asked::Asked;
@@ -9,15 +9,24 @@ use crate::findings::{Place, tell_breaches, tell_misplaced};
 use crate::headers::PieceHeader;
 use crate::opening::kind_of;
 use crate::places::Places;
-use crate::remarks::{tell_group, tell_sequence};
+use crate::remarks::{Behind, tell_group, tell_sequence};
 use crate::report::{Rate, Report};
 use crate::times::Times;
 use crate::told::{group_record, rate_with, sequence_record};
 use m2v_model::macro_library::head::{GroupInfo, SequenceExtension, SequenceInfo};
 use m2v_model::{Notes, PictureNote, Sequence};
 use m2v_strict::check::sequence_rules;
-use m2v_strict::{RuleSet, Runs};
+use m2v_strict::{Arrival, Display, Leading, Parity, RuleSet, Runs};
 use std::alloc::{AllocError, Global};
+
+/// How a piece ends.
+#[derive(Clone, Copy, Debug, PartialEq, Eq)]
+pub struct PieceEnd {
+    /// Where, in bits of the input.
+    pub bit: u64,
+    /// A sequence end code ends it.
+    pub closed: bool,
+}
 
 /// What is kept of a sequence that is audited.
 #[derive(Drop)]
@@ -25,6 +34,8 @@ pub struct Auditing {
     pub report: Report,
     /// The rules that are looked at beside those of the Main profile.
     pub rules: RuleSet,
+    /// The first sequence header of all, where sequences came before.
+    pub like: Option<Sequence>,
     /// The byte of the input where the sequence's text begins.
     pub start: u64,
     /// The first sequence header, once the sequence was told.
@@ -42,14 +53,24 @@ pub struct Auditing {
     /// The frames that are shown.
     pub frames: u64,
     pub bytes: u64,
+    /// How the last piece ends, once one came.
+    pub last: Option<PieceEnd>,
     /// The first vbv_delay doesn't say that the rate is variable.
     pub constant: bool,
     /// Where frames stand in their group.
     pub places: Places,
+    /// The parity of the fields that are shown.
+    pub parity: Parity,
+    /// The last group header.
+    pub group: Option<GroupInfo>,
+    /// The sequence display extension of the first sequence header, once one came.
+    pub display: Option<Option<Display>>,
     /// The times of removals.
     pub times: Times,
     /// How the buffer is filled.
     pub rate: Rate,
+    /// The last picture, as the arrival of the next one's bits asks for it.
+    pub arrival: Option<Arrival>,
     /// The buffer's account, where the sequence has one.
     pub account: Option<Account>,
 }
@@ -86,6 +107,7 @@ impl Auditing {
         Auditing {
             report: Report::new(alloc, number, asked.pictures),
             rules: asked.rules,
+            like: asked.first,
             start,
             first: None,
             sequence: None,
@@ -96,14 +118,19 @@ impl Auditing {
             groups: 0,
             frames: 0,
             bytes: 0,
+            last: None,
             constant: true,
             places: Places::new(false),
+            parity: Parity::new(false),
+            group: None,
+            display: None,
             times: Times::new(false, 0),
             rate: Rate {
                 constant: true,
                 low_delay: false,
                 size: 0,
             },
+            arrival: None,
             account: None,
         }
     }
@@ -122,6 +149,7 @@ impl Auditing {
         let low_delay = s.extension.low_delay;
         self.first = Some(*s);
         self.places = Places::new(low_delay);
+        self.parity = Parity::new(low_delay);
         self.times = Times::new(low_delay, s.info.frame_rate_code);
         self.rate = rate_with(s, note);
         let record = sequence_record(self.report.number(), 8 * place, s, kind_of(s, note));
@@ -167,11 +195,40 @@ impl Auditing {
     {
         tell_breaches(&mut self.report, self.pictures, bit, &sequence_rules(s))?;
         let first = self.first.unwrap_or(*s);
-        let place = self.place_at(bit);
-        tell_sequence(&mut self.report, self.rules, place, &first, s)?;
+        let (before, place) = (self.leading(), self.place_at(bit));
+        tell_sequence(
+            &mut self.report,
+            self.rules,
+            &self.like,
+            &before,
+            place,
+            &first,
+            s,
+        )?;
         self.sequence = Some(*s);
         self.headed = true;
         Ok(())
+    }
+
+    /// Which headers came since the last picture.
+    pub(crate) fn leading(&self) -> Leading
+        ensures { result ≡ leading self.now }
+    {
+        Leading {
+            sequence: self.headed,
+            group: self.first_in_group,
+        }
+    }
+
+    /// What stands before a group header.
+    fn behind(&self) -> Behind
+        ensures { result ≡ behind self.now }
+    {
+        Behind {
+            headers: self.leading(),
+            group: self.group,
+            fields: self.runs.fields,
+        }
     }
 
     /// Where a header at a bit of the input stands.
@@ -188,14 +245,14 @@ impl Auditing {
     /// What the stricter rules remark of a group header at a bit of the input, where a sequence header came before it.
     fn group_remarks(&mut self, bit: u64, g: &GroupInfo) -> Result<(), AllocError>
         ensures value { OnOk result (self.new ≡ record self.old {
-          report = with_group_by self.old.report self.old.rules self.old.headed
+          report = with_group_by self.old.report self.old.rules (behind self.old)
               self.old.pictures bit self.old.sequence g.now;
         }) }
         ensures keeps { Keeps self.old self.new }
     {
-        let place = self.place_at(bit);
+        let (before, place) = (self.behind(), self.place_at(bit));
         match &self.sequence {
-            Some(s) => tell_group(&mut self.report, self.rules, self.headed, place, s, g),
+            Some(s) => tell_group(&mut self.report, self.rules, &before, place, s, g),
             None => Ok(()),
         }
     }
@@ -213,6 +270,7 @@ impl Auditing {
         self.report.group(&record)?;
         self.group_remarks(bit, g)?;
         self.first_in_group = true;
+        self.group = Some(*g);
         self.runs.group();
         self.groups = self.groups.saturating_add(1);
         Ok(())

@@ -1,21 +1,26 @@
 //! A sequence that is audited, piece by piece.
-ghost use Rattle.std.specs.Prelude.{◌≡◌, ◌+◌, ◌≤◌, ◌<◌, ◌^◌, OnOk, IfSome};
+ghost use Rattle.std.specs.Prelude.{◌≡◌, ◌+◌, ◌≤◌, ◌<◌, ◌^◌, IfOk, OnOk, IfSome};
+ghost use Rattle.m2v_model.specs.Pieces.{zeros_last};
 ghost use Rattle.m2v_model.specs.PieceNotes.{noted};
 ghost use Rattle.m2v_dec_piece.specs.Sound.{IsSoundPiece};
 ghost use Rattle.m2v_strict.specs.m2v_check.m2v_decode.Decoding.{whole_of};
 ghost use Rattle.m2v_strict.specs.m2v_check.Judging.{IsPlaced};
-ghost use Rattle.m2v_audit.specs.Auditing.{nothing, fronted, told, after_piece, totals_of, finished, ended, stopped_by, stopped, is_begun, cleared, IsSound, HasRoom, Keeps, Lessens};
+ghost use Rattle.m2v_audit.specs.Others.{others_of};
+ghost use Rattle.m2v_audit.specs.Auditing.{nothing, fronted, pictured, with_others, leading, with_ending, told, after_piece, with_end_remarks, totals_of, finished, ended, stopped_by, stopped, is_begun, cleared, IsSound, HasRoom, Keeps, Lessens};
 
 use crate::asked::Asked;
-use crate::auditing::Auditing;
-use crate::findings::{tell_ended, tell_misplaced};
+use crate::auditing::{Auditing, PieceEnd};
+use crate::findings::{Place, tell_ended, tell_misplaced, tell_remarks};
 use crate::headers::front;
+use crate::others::{Other, read_others};
+use crate::remarks::tell_shown;
 use crate::report::SequenceTotals;
 use crate::tally::Tally;
-use crate::zeros::{zeros_at_end, zeros_of};
+use crate::zeros::{ends_code, zeros_at_end, zeros_of};
 use m2v_dec_piece::Piece;
 use m2v_dec_unit::UnitReader;
-use m2v_model::Notes;
+use m2v_model::{Notes, Sequence};
+use m2v_strict::end_rules;
 use std::alloc::{AllocError, Global};
 use std::marker::Model;
 
@@ -38,10 +43,27 @@ impl Model for Auditor {
     ghost invariant = { λ a. IsSound a.kept };
 }
 
+/// What else the units of a piece say before its first slice.
+fn others_in(alloc: Global, piece: &Piece) -> Result<Vec<Other>, AllocError>
+    requires piece { IsSoundPiece piece.now }
+    ensures { IfOk result
+        (λ os. os.items ≡ others_of piece.now.place (whole_of piece.now)) }
+{
+    let mut units = UnitReader::new(&piece.bytes, zeros_of(piece));
+    read_others(alloc, &mut units, 8 * piece.place)
+}
+
 impl Auditing {
-    /// The sequence and the headers of a piece.
-    fn front(&mut self, alloc: Global, piece: &Piece, notes: &Notes) -> Result<(), AllocError>
+    /// The sequence and the headers of a piece, of which this else was read.
+    fn front(
+        &mut self,
+        alloc: Global,
+        piece: &Piece,
+        notes: &Notes,
+        others: &[Other],
+    ) -> Result<(), AllocError>
         requires piece { IsSoundPiece piece.now }
+        requires others { others.now ≡ others_of piece.now.place (whole_of piece.now) }
         requires few { self.old.places.shown < 2 ^ 61 }
         ensures value { OnOk result (self.new
             ≡ fronted self.old piece.now.place (whole_of piece.now) (noted notes.now)) }
@@ -50,7 +72,31 @@ impl Auditing {
         self.begin_once(piece.place, notes)?;
         let mut units = UnitReader::new(&piece.bytes, zeros_of(piece));
         let headers = front(alloc, &mut units, 8 * piece.place)?;
-        self.headers(&headers, &notes.sequences)
+        self.headers(&headers, &notes.sequences)?;
+        self.display(piece.place, others)
+    }
+
+    /// The picture of a piece, or more bits of the one before it, and what else stands before the first slice.
+    fn shown(
+        &mut self,
+        alloc: Global,
+        piece: &Piece,
+        notes: &Notes,
+        zeros: u64,
+        others: &[Other],
+    ) -> Result<(), AllocError>
+        requires piece { IsSoundPiece piece.now }
+        requires zeros { zeros ≤ piece.now.length }
+        requires picture { IfSome notes.now.picture
+            (λ n. IsPlaced n piece.now.place piece.now.length) }
+        requires room { HasRoom self.old piece.now.length }
+        ensures value { OnOk result (self.new ≡ with_others self.old.pictures others.now
+            (pictured self.old piece.now.place piece.now.length zeros notes.now.picture)) }
+        ensures sound { IsSound self.new }
+    {
+        let picture = self.pictures;
+        self.note(alloc, &notes.picture, piece.place, piece.length, zeros)?;
+        self.others(picture, others)
     }
 
     /// A piece that is counted among the bytes.
@@ -68,10 +114,46 @@ impl Auditing {
             ≡ told self.old piece.now.place (whole_of piece.now) (noted notes.now)) }
         ensures sound { IsSound self.new }
     {
-        self.front(alloc, piece, notes)?;
+        let others = others_in(alloc, piece)?;
+        self.front(alloc, piece, notes, &others)?;
         let zeros = zeros_at_end(piece);
-        self.note(alloc, &notes.picture, piece.place, piece.length, zeros)?;
+        self.shown(alloc, piece, notes, zeros, &others)?;
+        self.end_piece(piece, zeros);
         self.settle()
+    }
+
+    /// A piece ends, in so many zero bytes.
+    fn end_piece(&mut self, piece: &Piece, zeros: u64)
+        requires piece { IsSoundPiece piece.now }
+        requires zeros { zeros ≡ zeros_last (whole_of piece.now) }
+        ensures value { self.new ≡ with_ending piece.now.place (whole_of piece.now) self.old }
+        ensures keeps { Keeps self.old self.new }
+    {
+        self.last = Some(PieceEnd {
+            bit: 8 * (piece.place + piece.length),
+            closed: ends_code(piece, zeros),
+        });
+    }
+
+    /// What the stricter rules remark of the end.
+    fn end_remarks(&mut self) -> Result<(), AllocError>
+        ensures value { OnOk result (self.new ≡ record self.old {
+          report = with_end_remarks self.old.report (leading self.old) self.old.pictures
+              self.old.last;
+        }) }
+        ensures keeps { Keeps self.old self.new }
+    {
+        let before = self.leading();
+        match self.last {
+            Some(end) => {
+                let place = Place {
+                    picture: self.pictures,
+                    bit: end.bit,
+                };
+                tell_remarks(&mut self.report, place, &end_rules(&before, end.closed))
+            }
+            None => Ok(()),
+        }
     }
 
     /// Tells what is left at the end of a sequence.
@@ -82,9 +164,11 @@ impl Auditing {
     {
         let told = self.places.close();
         tell_misplaced(&mut self.report, &told)?;
+        tell_shown(&mut self.report, self.parity.last, &self.parity.anchor)?;
         if let Some(mut account) = self.account.take() {
             tell_ended(&mut self.report, &self.rate, &mut account)?;
         }
+        self.end_remarks()?;
         let totals = self.totals();
         self.report.finish(&totals)
     }
@@ -176,6 +260,13 @@ impl Auditor {
         ensures { result ≡ is_begun self.now }
     {
         self.kept.first.is_some()
+    }
+
+    /// The first sequence header, once the sequence was told.
+    pub fn first(&self) -> Option<Sequence>
+        ensures { result ≡ self.now.first }
+    {
+        self.kept.first
     }
 
     /// How many pictures it has.

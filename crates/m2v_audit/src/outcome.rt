@@ -1,6 +1,6 @@
 //! What comes of an audit: what is counted of all sequences, and how it ends.
 ghost use Rattle.std.specs.Prelude.{◌≡◌};
-ghost use Rattle.m2v_audit.specs.Audited.{none_counted, counted_with};
+ghost use Rattle.m2v_audit.specs.Audited.{first_ending, none_counted, none_told, counted_with};
 
 use crate::auditor::Auditor;
 use crate::records::TotalRecord;
@@ -12,10 +12,23 @@ use m2v_strict::check::decode::Fault;
 pub enum Ending {
     /// The whole input was read.
     Whole,
-    /// A sequence has a fault, the first of the input.
+    /// A sequence has a fault, the first of the input, and no limit was passed before it.
     Fault(Fault),
-    /// A sequence passes a limit.
+    /// A sequence passes a limit, and none before it has a fault.
     Limit(LimitKind),
+}
+
+impl Ending {
+    /// This ending, or the next one where it is that of a whole input.
+    pub(crate) fn or(self, next: Ending) -> Ending
+        ensures { result ≡ first_ending self next }
+    {
+        match self {
+            Ending::Whole => next,
+            Ending::Fault(f) => Ending::Fault(f),
+            Ending::Limit(kind) => Ending::Limit(kind),
+        }
+    }
 }
 
 /// What comes of an audit.
@@ -23,6 +36,18 @@ pub enum Ending {
 pub struct Outcome {
     pub totals: TotalRecord,
     pub ending: Ending,
+}
+
+impl Outcome {
+    /// Nothing was told.
+    pub(crate) fn none() -> Outcome
+        ensures { result ≡ none_told }
+    {
+        Outcome {
+            totals: TotalRecord::none(),
+            ending: Ending::Whole,
+        }
+    }
 }
 
 impl TotalRecord {

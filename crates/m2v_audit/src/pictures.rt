@@ -3,18 +3,19 @@ ghost use Rattle.std.specs.Prelude.{◌≡◌, ◌+◌, ◌*◌, ◌≤◌, ◌<
 ghost use Rattle.std.specs.Option.{option_map};
 ghost use Rattle.m2v_strict.specs.m2v_check.Judging.{IsPlaced};
 ghost use Rattle.m2v_audit.specs.Account.{Account as State, IsPicture, with_more};
-ghost use Rattle.m2v_audit.specs.Auditing.{coded, constant_with, is_shown, counted, with_rules, with_told, with_place, due_of, opened_by, account_by, with_account, with_coded, pictured, with_settled, total_of, IsSound, HasRoom, Keeps};
+ghost use Rattle.m2v_audit.specs.Auditing.{coded, constant_with, is_shown, counted, with_rules, preceding, with_told, with_place, with_parity, due_of, opened_by, account_by, with_account, with_coded, pictured, with_settled, total_of, IsSound, HasRoom, Keeps};
 ghost use Rattle.m2v_audit.specs.Times.{after as times_after};
 
 use crate::account::{Account, Due};
 use crate::auditing::Auditing;
 use crate::findings::{tell_breaches, tell_misplaced, tell_settled};
 use crate::opening::{VARIABLE, first_buffer};
-use crate::remarks::tell_picture;
+use crate::remarks::{tell_picture, tell_shown};
 use crate::report::Report;
 use crate::told::{bit_of, picture_record, waiting_of};
 use m2v_model::{PictureNote, Sequence};
-use m2v_strict::check::{CodedPicture, ends_frame, is_b, rules_from_12, rules_to_10};
+use m2v_strict::check::{CodedPicture, ends_frame, is_b, rate_of, rules_from_12, rules_to_10};
+use m2v_strict::{Arrival, Preceding, ShownFrame, has_parity};
 use std::alloc::{AllocError, Global};
 
 /// The frame of a picture is shown with it.
@@ -120,11 +121,23 @@ impl Auditing {
         ensures { self.new ≡ counted self.old p.now }
     {
         self.constant = self.constant_with(p);
-        self.headed = false;
         self.first_in_group = false;
         self.pictures += 1;
         if is_shown(&p.note) {
             self.frames = self.frames.saturating_add(1);
+        }
+    }
+
+    /// What comes before a picture that comes next, behind this sequence header.
+    fn preceding(&self, s: &Sequence) -> Preceding
+        ensures value { result ≡ preceding self.now s.now }
+        ensures rate { result.rate < 2 ^ 51 }
+    {
+        let first = self.first.unwrap_or(*s);
+        Preceding {
+            headed: self.headed,
+            rate: rate_of(&first),
+            picture: self.arrival,
         }
     }
 
@@ -138,7 +151,10 @@ impl Auditing {
         let record = picture_record(self.report.number(), p, bytes, zeros);
         self.report.picture(&record)?;
         tell_rules(&mut self.report, self.constant, p)?;
-        tell_picture(&mut self.report, self.rules, self.constant, &self.runs, p)?;
+        let before = self.preceding(&p.sequence);
+        let report = &mut self.report;
+        tell_picture(report, self.rules, &before, self.constant, &self.runs, p)?;
+        self.headed = false;
         self.runs.picture(p, record.fields);
         Ok(())
     }
@@ -159,6 +175,20 @@ impl Auditing {
         }
         let told = self.places.frame(waiting, is_b(&p.note.info));
         tell_misplaced(&mut self.report, &told)
+    }
+
+    /// Tells the warning on the frame that is shown by the picture, where one is.
+    fn parity(&mut self, p: &CodedPicture) -> Result<(), AllocError>
+        ensures value { OnOk result (self.new ≡ with_parity self.old p.now) }
+        ensures keeps { Keeps self.old self.new }
+    {
+        if !has_parity(p) {
+            return Ok(());
+        }
+        let last = self.parity.last;
+        let frame = ShownFrame::new(p, bit_of(&p.note));
+        let shown = self.parity.frame(frame, is_b(&p.note.info));
+        tell_shown(&mut self.report, last, &shown)
     }
 
     /// The picture as the buffer sees it, of a piece that begins at a byte of the input and has so many bytes.
@@ -201,6 +231,11 @@ impl Auditing {
         ensures total { total_of self.new.account ≤ total_of self.old.account + 8 * bytes }
     {
         let due = self.due(p, place, bytes);
+        self.arrival = Some(Arrival {
+            code_end: p.note.code_end,
+            units: due.units,
+            delay: due.delay,
+        });
         account_by(alloc, &mut self.account, &self.first, &p.note, due)
     }
 
@@ -223,6 +258,7 @@ impl Auditing {
         self.count(p);
         self.tell(p, bytes, zeros)?;
         self.place(p)?;
+        self.parity(p)?;
         self.account(alloc, p, place, bytes)
     }
 

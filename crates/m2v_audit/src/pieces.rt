@@ -7,12 +7,14 @@ ghost use Rattle.m2v_dec_piece.specs.Sound.{IsSoundPiece};
 ghost use Rattle.m2v_strict.specs.m2v_check.m2v_decode.Decoding.{Decoding};
 ghost use Rattle.m2v_strict.specs.m2v_check.m2v_decode.Progress.{Cuts};
 ghost use Rattle.m2v_strict.specs.m2v_check.m2v_decode.Reading.{nothing_read, Follows};
-ghost use Rattle.m2v_audit.specs.Auditing.{cleared};
+ghost use Rattle.m2v_audit.specs.Auditing.{cleared, is_begun};
+ghost use Rattle.m2v_audit.specs.Feeding.{cutting_of, IsFed};
 ghost use Rattle.m2v_audit.specs.Leading.{PieceTold, PieceFails, AreTold, IsTextRead, pieces_from, TextStops};
 
 use crate::auditor::Auditor;
+use crate::feed::Feed;
 use m2v_port::{PortError, Sink, Source};
-use m2v_strict::check::decode::{Cutter, DecodeError, Piece, Reader};
+use m2v_strict::check::decode::{DecodeError, Piece, Reader};
 use std::alloc::Global;
 
 /// Writes bytes.
@@ -72,43 +74,50 @@ fn tell_piece<K: Sink>(
 }
 
 /// Reads and audits the pieces of a text, and writes what each tells. `later`: the text needs no sequence. Answers
-/// whether it needs none and has none.
+/// whether it needs none and has none. A piece with a fault with which another sequence begins comes once more.
 fn tell_pieces<S: Source, K: Sink>(
     alloc: Global,
     later: bool,
-    cutter: &mut Cutter,
+    feed: &mut Feed,
     reader: &mut Reader,
     auditor: &mut Auditor,
     input: &mut S,
     output: &mut K,
 ) -> Result<bool, DecodeError>
-    requires going { cutter.old.failed ≡ false }
+    requires going { (cutting_of feed.old).failed ≡ false }
+    requires waits { IsFed feed.old (S.left input.old) }
     requires reader { reader.old ≡ nothing_read }
-    requires bytes { auditor.old.bytes ≤ cutter.old.place }
+    requires bytes { auditor.old.bytes ≤ (cutting_of feed.old).place }
+    requires none { is_begun auditor.old ≡ false }
     requires output { IsTrue (K.ready output.old) }
     ensures ok { IfOk result (λ optional. AreTold
         (change S.left S.faults input.old input.new)
-        (change K.held K.faults output.old output.new) later auditor.old cutter.old optional
-        auditor.new reader.new cutter.new) }
-    ensures over { OnOk result (cutter.new.ended ≡ true) }
-    ensures going { OnOk result (cutter.new.failed ≡ false) }
-    ensures most { OnOk result (cutter.new.place ≤ 2 ^ 36) }
+        (change K.held K.faults output.old output.new) later auditor.old (cutting_of feed.old)
+        optional auditor.new reader.new (cutting_of feed.new)) }
+    ensures going { OnOk result ((cutting_of feed.new).failed ≡ false) }
+    ensures again { OnOk result (feed.new.again ≡ None) }
+    ensures most { OnOk result ((cutting_of feed.new).place ≤ 2 ^ 36) }
     ensures err { IfErr result (TextStops
         (change S.left S.faults input.old input.new)
         (change K.held K.faults output.old output.new)
-        (pieces_from later auditor.old at_start cutter.old) auditor.new) }
+        (pieces_from later auditor.old at_start (cutting_of feed.old)) later (cutting_of feed.old)
+        auditor.new (cutting_of feed.new)) }
+    ensures waits { IsFed feed.new (S.left input.new) }
     ensures output { SinkStays K.ready K.name K.faults output.old output.new }
     ensures input { S.faults input.old ≤ S.faults input.new }
 {
     let mut optional = later;
     loop {
-        match cutter.next_piece(alloc, input) {
+        match feed.next_piece(alloc, input) {
             Err(e) => return Err(e),
             Ok(None) => return Ok(optional),
-            Ok(Some(piece)) => {
-                tell_piece(alloc, &piece, reader, auditor, output)?;
-                optional = false;
-            }
+            Ok(Some(piece)) => match tell_piece(alloc, &piece, reader, auditor, output) {
+                Err(e) => {
+                    feed.refused(auditor.is_begun(), e, piece);
+                    return Err(e);
+                }
+                Ok(()) => optional = false,
+            },
         }
     }
 }
@@ -118,33 +127,37 @@ fn tell_pieces<S: Source, K: Sink>(
 pub(crate) fn read_text<S: Source, K: Sink>(
     alloc: Global,
     later: bool,
-    cutter: &mut Cutter,
+    feed: &mut Feed,
     auditor: &mut Auditor,
     input: &mut S,
     output: &mut K,
 ) -> Result<bool, DecodeError>
-    requires going { cutter.old.failed ≡ false }
-    requires bytes { auditor.old.bytes ≤ cutter.old.place }
+    requires going { (cutting_of feed.old).failed ≡ false }
+    requires waits { IsFed feed.old (S.left input.old) }
+    requires bytes { auditor.old.bytes ≤ (cutting_of feed.old).place }
+    requires none { is_begun auditor.old ≡ false }
     requires output { IsTrue (K.ready output.old) }
     ensures ok { IfOk result (λ optional. IsTextRead
         (change S.left S.faults input.old input.new)
-        (change K.held K.faults output.old output.new) later auditor.old cutter.old optional
-        auditor.new cutter.new) }
-    ensures over { OnOk result (cutter.new.ended ≡ true) }
-    ensures going { OnOk result (cutter.new.failed ≡ false) }
+        (change K.held K.faults output.old output.new) later auditor.old (cutting_of feed.old)
+        optional auditor.new (cutting_of feed.new)) }
+    ensures going { OnOk result ((cutting_of feed.new).failed ≡ false) }
+    ensures again { OnOk result (feed.new.again ≡ None) }
     ensures err { IfErr result (TextStops
         (change S.left S.faults input.old input.new)
         (change K.held K.faults output.old output.new)
-        (pieces_from later auditor.old at_start cutter.old) auditor.new) }
+        (pieces_from later auditor.old at_start (cutting_of feed.old)) later (cutting_of feed.old)
+        auditor.new (cutting_of feed.new)) }
+    ensures waits { IsFed feed.new (S.left input.new) }
     ensures output { SinkStays K.ready K.name K.faults output.old output.new }
     ensures input { S.faults input.old ≤ S.faults input.new }
 {
     let mut reader = Reader::new(alloc);
-    let optional = tell_pieces(alloc, later, cutter, &mut reader, auditor, input, output)?;
+    let optional = tell_pieces(alloc, later, feed, &mut reader, auditor, input, output)?;
     if optional {
         return Ok(true);
     }
-    match reader.end(cutter.end()) {
+    match reader.end(feed.place()) {
         Ok(()) => Ok(false),
         Err(f) => Err(DecodeError::Stream(f)),
     }

@@ -1,6 +1,6 @@
 // The report of a sequence as it grows.
 ghost use Rattle.std.specs.Prelude.{◌≡◌, ◌<◌, ◌≤◌, [], OnOk};
-ghost use Rattle.m2v_audit.specs.Report.{no_tally, finding_of, with_breach, with_warning, with_finding, held_of, under_of, over_of, with_failure, with_held, with_under, with_over, with_removal, with_begin, with_group_line, with_picture_line, with_count, with_counts, end_of, with_end};
+ghost use Rattle.m2v_audit.specs.Report.{no_tally, finding_of, with_breach, with_warning, with_finding, held_of, under_of, over_of, with_failure, with_held, with_under, with_over, is_near, is_far, with_far, with_removal, with_begin, with_group_line, with_picture_line, with_count, with_counts, end_of, with_end};
 
 use crate::account::Due;
 use crate::lines::Lines;
@@ -194,6 +194,7 @@ impl Report {
         self.held(rate, due, told)?;
         self.under(rate, due, told)?;
         self.over(rate, due, told)?;
+        self.far(rate, due, told)?;
         self.tally.removal(rate.constant, due, told);
         Ok(())
     }
@@ -235,6 +236,23 @@ impl Report {
             return Ok(());
         }
         self.failure(&over_of(self.sequence, rate, due, told))
+    }
+
+    /// The delay is far from that which the removal implies, where that is so.
+    fn far(&mut self, rate: &Rate, due: &Due, told: &Removed) -> Result<(), AllocError>
+        ensures { OnOk result (self.new ≡ with_far self.old rate.now due.now told.now) }
+    {
+        if !is_far(rate.constant, due, told) {
+            return Ok(());
+        }
+        self.warning(&Broken {
+            picture: due.number,
+            bit: due.bit,
+            rule: 54,
+            element: Some(Element::VbvDelay),
+            have: u128::from(due.delay),
+            need: told.delay,
+        })
     }
 
     /// The buffer fails.
@@ -292,6 +310,21 @@ impl Report {
             time: self.tally.time,
         }
     }
+}
+
+/// Two delays are at most a tick apart.
+fn is_near(a: u128, b: u128) -> bool
+    ensures { result ≡ is_near a b }
+{
+    a.abs_diff(b) <= 1
+}
+
+/// A delay is far from that which the removal implies.
+fn is_far(constant: bool, due: &Due, told: &Removed) -> bool
+    ensures { result ≡ is_far constant due.now told.now }
+{
+    let delay = u128::from(due.delay);
+    constant && due.number != 0 && delay != VARIABLE && !is_near(delay, told.delay)
 }
 
 /// What is told of a breach, and of a warning.

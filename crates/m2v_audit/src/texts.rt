@@ -1,26 +1,28 @@
 //! The texts of an input, each with the report of its sequence.
-ghost use Rattle.std.specs.Prelude.{◌≡◌, ◌+◌, ◌-◌, ◌≤◌, ◌<◌, ◌^◌, ◌++◌, ℕ, length, [], IsTrue, IfOk, IfErr, IfNone, OnOk, false, true};
+ghost use Rattle.std.specs.Prelude.{◌≡◌, ◌-◌, ◌≤◌, ◌^◌, ◌++◌, ℕ, length, IsTrue, IfOk, IfErr, OnOk, None, false};
 ghost use Rattle.m2v_port.specs.Ends.{change, SinkStays};
 ghost use Rattle.m2v_port.specs.Port.{Grows};
 ghost use Rattle.m2v_strict.specs.m2v_check.m2v_decode.Progress.{Cuts, before_all};
 ghost use Rattle.m2v_audit.specs.Auditing.{stopped, ended};
-ghost use Rattle.m2v_audit.specs.Audited.{counted_with, none_counted, stopping_line as line_of_stop, stopping_text};
+ghost use Rattle.m2v_audit.specs.Audited.{asked_behind, counted_with, none_told, stopping_line as line_of_stop, stopping_text};
+ghost use Rattle.m2v_audit.specs.Feeding.{cutting_of, IsFed};
 ghost use Rattle.m2v_audit.specs.Lines.{skipped_text};
-ghost use Rattle.m2v_audit.specs.Leading.{as_ending, texts_from, total_from, LeadsTo, Stops, TextTold};
+ghost use Rattle.m2v_audit.specs.Leading.{as_ending, is_fault, texts_from, total_from, IsEnough, LeadsTo, Stops, TextTold};
 
 use crate::asked::Asked;
 use crate::auditor::Auditor;
 use crate::fault_words::fault_word;
+use crate::feed::Feed;
 use crate::lines::Lines;
-use crate::outcome::Ending;
+use crate::outcome::{Ending, Outcome};
 use crate::pieces::{put, read_text};
 use crate::records::TotalRecord;
 use crate::words::LimitKind;
 use m2v_port::{Sink, Source};
-use m2v_strict::check::decode::{Cutter, DecodeError};
+use m2v_strict::check::decode::DecodeError;
 use std::alloc::{AllocError, Global};
 
-/// How an audit ends by an error of a text; Read, Write and Memory are errors of the audit.
+/// How a sequence stops by an error of its text; Read, Write and Memory are errors of the audit.
 #[tactic(auto, unfolding(crate::specs::Leading::as_ending))]
 fn ending_of(e: DecodeError) -> Result<Ending, DecodeError>
     ensures { result ≡ as_ending e }
@@ -32,6 +34,16 @@ fn ending_of(e: DecodeError) -> Result<Ending, DecodeError>
         DecodeError::Read => Err(DecodeError::Read),
         DecodeError::Write => Err(DecodeError::Write),
         DecodeError::Memory => Err(DecodeError::Memory),
+    }
+}
+
+/// A sequence stops by a fault, behind which the report goes on.
+fn is_fault(ending: Ending) -> bool
+    ensures { result ≡ is_fault ending }
+{
+    match ending {
+        Ending::Fault(_) => true,
+        _ => false,
     }
 }
 
@@ -70,6 +82,7 @@ fn skip<K: Sink>(
 
 /// A sequence ends with its text.
 fn finish<K: Sink>(
+    asked: &mut Asked,
     totals: &mut TotalRecord,
     auditor: &mut Auditor,
     output: &mut K,
@@ -78,12 +91,14 @@ fn finish<K: Sink>(
     ensures grown { OnOk result (Grows (K.held output.old) (ended auditor.old).report.text
         (K.held output.new)) }
     ensures totals { OnOk result (totals.new ≡ counted_with totals.old (ended auditor.old)) }
+    ensures asked { OnOk result (asked.new ≡ asked_behind asked.old (ended auditor.old)) }
     ensures err { IfErr result (Cuts (ended auditor.old).report.text
         (change K.held K.faults output.old output.new)) }
     ensures output { SinkStays K.ready K.name K.faults output.old output.new }
 {
     auditor.finish()?;
     *totals = totals.with(auditor);
+    *asked = asked.behind(auditor);
     put(auditor.bytes(), output)
 }
 
@@ -91,6 +106,7 @@ fn finish<K: Sink>(
 fn stop<K: Sink>(
     alloc: Global,
     ending: Ending,
+    asked: &mut Asked,
     totals: &mut TotalRecord,
     auditor: &mut Auditor,
     output: &mut K,
@@ -99,6 +115,7 @@ fn stop<K: Sink>(
     ensures grown { OnOk result (Grows (K.held output.old)
         (stopping_text totals.old auditor.old ending) (K.held output.new)) }
     ensures totals { OnOk result (totals.new ≡ counted_with totals.old (stopped auditor.old)) }
+    ensures asked { OnOk result (asked.new ≡ asked_behind asked.old (stopped auditor.old)) }
     ensures err { IfErr result (Cuts (stopping_text totals.old auditor.old ending)
         (change K.held K.faults output.old output.new)) }
     ensures output { SinkStays K.ready K.name K.faults output.old output.new }
@@ -107,89 +124,101 @@ fn stop<K: Sink>(
     stopping_line(&mut lines, totals.sequences, ending)?;
     auditor.stop()?;
     *totals = totals.with(auditor);
+    *asked = asked.behind(auditor);
     put(lines.bytes(), output)?;
     put(auditor.bytes(), output)
 }
 
-/// Reads a text, and writes the report of its sequence. `later`: the text needs no sequence. Answers how the audit ends,
-/// where it does.
+/// Reads a text, and writes the report of its sequence. `later`: the text needs no sequence. Answers whether another text
+/// follows: behind the end of the sequence, and behind a fault; `asked` is then what is asked of that.
 fn tell_text<S: Source, K: Sink>(
     alloc: Global,
-    asked: Asked,
+    asked: &mut Asked,
     later: bool,
-    totals: &mut TotalRecord,
-    cutter: &mut Cutter,
+    so_far: &mut Outcome,
+    feed: &mut Feed,
     input: &mut S,
     output: &mut K,
-) -> Result<Option<Ending>, DecodeError>
-    requires going { cutter.old.failed ≡ false }
-    requires begun { cutter.old.begun ≡ false }
-    requires ended { cutter.old.ended ≡ false }
+) -> Result<bool, DecodeError>
+    requires going { (cutting_of feed.old).failed ≡ false }
+    requires begun { (cutting_of feed.old).begun ≡ false }
+    requires ended { (cutting_of feed.old).ended ≡ false }
+    requires waits { IsFed feed.old (S.left input.old) }
     requires output { IsTrue (K.ready output.old) }
-    ensures ok { IfOk result (λ ending. (n : ℕ) → length cutter.old.unread < n → TextTold
+    ensures ok { IfOk result (λ follows. (n : ℕ)
+        → IsEnough later n (length (cutting_of feed.old).unread) → TextTold
         (change S.left S.faults input.old input.new)
         (change K.held K.faults output.old output.new)
-        (texts_from n asked later totals.old cutter.old) asked totals.new cutter.old cutter.new
-        ending) }
-    ensures most { cutter.old.place ≤ 2 ^ 36 }
-    ensures over { IfOk result (λ ending. IfNone ending (cutter.new.ended ≡ true)) }
-    ensures going { IfOk result (λ ending. IfNone ending (cutter.new.failed ≡ false)) }
-    ensures err { IfErr result (λ e. (n : ℕ) → length cutter.old.unread < n → Stops
+        (texts_from n asked.old later so_far.old (cutting_of feed.old)) asked.new later so_far.new
+        (cutting_of feed.old) (cutting_of feed.new) follows) }
+    ensures most { (cutting_of feed.old).place ≤ 2 ^ 36 }
+    ensures err { IfErr result (λ e. (n : ℕ)
+        → IsEnough later n (length (cutting_of feed.old).unread) → Stops
         (change S.left S.faults input.old input.new)
         (change K.held K.faults output.old output.new)
-        (texts_from n asked later totals.old cutter.old) e) }
+        (texts_from n asked.old later so_far.old (cutting_of feed.old)) e) }
+    ensures waits { IsFed feed.new (S.left input.new) }
     ensures output { SinkStays K.ready K.name K.faults output.old output.new }
     ensures input { S.faults input.old ≤ S.faults input.new }
 {
-    let start = cutter.place();
-    let mut auditor = Auditor::new(alloc, totals.sequences, asked, start);
-    match read_text(alloc, later, cutter, &mut auditor, input, output) {
+    let start = feed.place();
+    let mut auditor = Auditor::new(alloc, so_far.totals.sequences, *asked, start);
+    match read_text(alloc, later, feed, &mut auditor, input, output) {
         Ok(true) => {
-            skip(alloc, totals.sequences, start, cutter.end(), output)?;
-            Ok(Some(Ending::Whole))
+            skip(alloc, so_far.totals.sequences, start, feed.place(), output)?;
+            Ok(false)
         }
         Ok(false) => {
-            finish(totals, &mut auditor, output)?;
-            Ok(None)
+            finish(asked, &mut so_far.totals, &mut auditor, output)?;
+            Ok(true)
         }
         Err(e) => {
             let ending = ending_of(e)?;
-            stop(alloc, ending, totals, &mut auditor, output)?;
-            Ok(Some(ending))
+            stop(
+                alloc,
+                ending,
+                asked,
+                &mut so_far.totals,
+                &mut auditor,
+                output,
+            )?;
+            so_far.ending = so_far.ending.or(ending);
+            Ok(is_fault(ending))
         }
     }
 }
 
-/// Reads text after text, and writes the report of each. Answers how the audit ends.
+/// Reads text after text, and writes the report of each.
 pub(crate) fn tell_texts<S: Source, K: Sink>(
     alloc: Global,
     asked: Asked,
-    totals: &mut TotalRecord,
-    cutter: &mut Cutter,
+    so_far: &mut Outcome,
+    feed: &mut Feed,
     input: &mut S,
     output: &mut K,
-) -> Result<Ending, DecodeError>
-    requires cutter { cutter.old ≡ before_all }
-    requires totals { totals.old ≡ none_counted }
+) -> Result<(), DecodeError>
+    requires cutter { feed.old.cutter ≡ before_all }
+    requires again { feed.old.again ≡ None }
+    requires so_far { so_far.old ≡ none_told }
     requires output { IsTrue (K.ready output.old) }
-    ensures ok { IfOk result (λ ending. LeadsTo
+    ensures ok { OnOk result (LeadsTo
         (change S.left S.faults input.old input.new)
         (change K.held K.faults output.old output.new)
-        (texts_from 1 asked false none_counted before_all) (total_from totals.new ending)) }
+        (texts_from 2 asked false none_told before_all) (total_from so_far.new)) }
     ensures err { IfErr result (Stops
         (change S.left S.faults input.old input.new)
         (change K.held K.faults output.old output.new)
-        (texts_from 1 asked false none_counted before_all)) }
+        (texts_from 2 asked false none_told before_all)) }
     ensures output { SinkStays K.ready K.name K.faults output.old output.new }
     ensures input { S.faults input.old ≤ S.faults input.new }
 {
     let mut later = false;
+    let mut next = asked;
     loop {
-        match tell_text(alloc, asked, later, totals, cutter, input, output)? {
-            Some(ending) => return Ok(ending),
-            None => {}
+        if !tell_text(alloc, &mut next, later, so_far, feed, input, output)? {
+            return Ok(());
         }
-        cutter.go_on();
+        feed.go_on();
         later = true;
     }
 }

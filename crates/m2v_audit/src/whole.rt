@@ -9,6 +9,7 @@ ghost use Rattle.m2v_audit.specs.Lines.{audit_line, columns_lines, total_line};
 ghost use Rattle.m2v_audit.specs.Leading.{IsAudited, Fails};
 
 use crate::asked::Asked;
+use crate::feed::Feed;
 use crate::lines::Lines;
 use crate::outcome::Outcome;
 use crate::pieces::put;
@@ -16,7 +17,7 @@ use crate::records::TotalRecord;
 use crate::texts::tell_texts;
 use m2v_port::{Sink, Source};
 use m2v_strict::RuleSet;
-use m2v_strict::check::decode::{Cutter, DecodeError};
+use m2v_strict::check::decode::DecodeError;
 use std::alloc::Global;
 
 /// Writes the first lines of a report: its format and the name of its rule set, and the names of the columns.
@@ -60,9 +61,9 @@ fn end<K: Sink>(alloc: Global, totals: &TotalRecord, output: &mut K) -> Result<(
     put(lines.bytes(), output)
 }
 
-/// Audits an input: reads it to its end, behind sequence end codes too, or to its first fault or the limit that it passes
+/// Audits an input: reads it to its end, behind sequence end codes and behind faults too, or to the limit that it passes
 /// before, and writes the report of its sequences, by what is asked for. Answers what is counted of all sequences, and how
-/// the audit ends.
+/// the audit ends: by the first fault, or by a limit where none comes before.
 ///
 /// # Errors
 /// A failed input, a failed output and lack of memory, with a prefix of the report on output. A fault of a sequence and
@@ -84,9 +85,9 @@ pub fn audit<S: Source, K: Sink>(
     ensures input { S.faults input.old ≤ S.faults input.new }
 {
     begin(alloc, asked.rules, output)?;
-    let mut cutter = Cutter::new(alloc)?;
-    let mut totals = TotalRecord::none();
-    let ending = tell_texts(alloc, asked, &mut totals, &mut cutter, input, output)?;
-    end(alloc, &totals, output)?;
-    Ok(Outcome { totals, ending })
+    let mut feed = Feed::new(alloc)?;
+    let mut outcome = Outcome::none();
+    tell_texts(alloc, asked, &mut outcome, &mut feed, input, output)?;
+    end(alloc, &outcome.totals, output)?;
+    Ok(outcome)
 }

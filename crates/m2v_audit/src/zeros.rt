@@ -1,8 +1,9 @@
-//! The zero bytes that end a piece.
+//! How a piece ends: its zero bytes, and the sequence end code.
 ghost use Rattle.std.specs.Prelude.{◌≡◌, ◌-◌, ◌≤◌, ◌&&◌, nat_lt, nat_eq, length, slice_index};
 ghost use Rattle.m2v_model.specs.Pieces.{zeros_last};
 ghost use Rattle.m2v_dec_piece.specs.Sound.{IsSoundPiece};
 ghost use Rattle.m2v_strict.specs.m2v_check.m2v_decode.Decoding.{whole_of};
+ghost use Rattle.m2v_audit.specs.Auditing.{ends_code};
 
 use m2v_dec_piece::Piece;
 
@@ -46,4 +47,13 @@ pub(crate) fn zeros_at_end(piece: &Piece) -> u64
     ensures most { result ≤ piece.now.length }
 {
     zeros_of(piece) + zeros_last(&piece.bytes)
+}
+
+/// A sequence end code ends a piece that ends in so many zero bytes.
+pub(crate) fn ends_code(piece: &Piece, zeros: u64) -> bool
+    requires zeros { zeros ≡ zeros_last (whole_of piece.now) }
+    requires sound { IsSoundPiece piece.now }
+    ensures { result ≡ ends_code (whole_of piece.now) }
+{
+    zeros == 0 && piece.bytes.ends_with(&[0, 0, 1, 0xB7])
 }

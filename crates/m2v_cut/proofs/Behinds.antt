@@ -6,10 +6,10 @@ use Rattle.m2v_port.specs.Ends.{Change, change}
 use Rattle.m2v_port.specs.Port.{Moves, Grows, GrowsByPrefix}
 use Rattle.m2v_port.proofs.Runs.{moves_nothing, grows_on, grows_by_nothing, grows_by_all, prefix_on, rose_since}
 use Rattle.m2v_model.specs.Units.{joined}
-use Rattle.m2v_dec_piece.specs.declared.answer.Piece.{Piece}
-use Rattle.m2v_dec_piece.specs.declared.answer.DecodeError.{DecodeError}
-use Rattle.m2v_dec_piece.specs.declared.answer.DecodeError.TheVariants as reading
-use Rattle.m2v_dec_piece.specs.Cutting.{Cutting, left_of}
+use Rattle.m2v_decode.specs.m2v_dec_piece.declared.answer.Piece.{Piece}
+use Rattle.m2v_decode.specs.m2v_dec_piece.declared.answer.DecodeError.{DecodeError}
+use Rattle.m2v_decode.specs.m2v_dec_piece.declared.answer.DecodeError.TheVariants as reading
+use Rattle.m2v_decode.specs.m2v_dec_piece.Cutting.{Cutting, left_of}
 use Rattle.m2v_decode.specs.Decoding.{whole_of}
 use Rattle.m2v_cut.specs.declared.answer.CutError.{CutError}
 use Rattle.m2v_cut.specs.declared.answer.CutError.TheVariants as errors

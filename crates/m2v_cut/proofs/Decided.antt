@@ -6,7 +6,7 @@ use Rattle.std.proofs.lemmas.List.{append-nil}
 use Rattle.m2v_model.specs.Units.{Units, cut}
 use Rattle.m2v_model.proofs.ShiftLaws.{BeginsPiece}
 use Rattle.m2v_law_group.specs.Groups.{is_sequence, is_group, has_picture, has_sequence, group_headers, from_last_sequence, before_group, from_group, coded_pictures, begins_intra, stands_alone}
-use Rattle.m2v_dec_piece.specs.declared.answer.Piece.{Piece}
+use Rattle.m2v_decode.specs.m2v_dec_piece.declared.answer.Piece.{Piece}
 use Rattle.m2v_decode.specs.Decoding.{whole_of}
 use Rattle.m2v_law_group.specs.m2v_dec_unit.Texts.{units_in}
 use Rattle.m2v_cut.specs.declared.look.FirstPicture.{FirstPicture}

@@ -8,9 +8,9 @@ use Rattle.m2v_port.proofs.Runs.{tells, grows_by_nothing, moves_nothing}
 use Rattle.m2v_model.specs.Units.{Units, cut, joined}
 use Rattle.m2v_model.specs.Pieces.{pieces, limit, Limit, too_long, too_large, most_input}
 use Rattle.m2v_model.specs.ByPieces.{end_of}
-use Rattle.m2v_dec_piece.specs.declared.answer.DecodeError.{DecodeError}
-use Rattle.m2v_dec_piece.specs.declared.answer.DecodeError.TheVariants as reading
-use Rattle.m2v_dec_piece.specs.Cutting.{PieceStops, Passes}
+use Rattle.m2v_decode.specs.m2v_dec_piece.declared.answer.DecodeError.{DecodeError}
+use Rattle.m2v_decode.specs.m2v_dec_piece.declared.answer.DecodeError.TheVariants as reading
+use Rattle.m2v_decode.specs.m2v_dec_piece.Cutting.{PieceStops, Passes}
 use Rattle.m2v_decode.specs.Answers.{start_of, AllFit, OfText, OfTaken}
 use Rattle.m2v_decode.proofs.AnswerLaws.{of_text, ends_low}
 use Rattle.m2v_decode.proofs.Going.{ends_behind}

@@ -8,11 +8,11 @@ use Rattle.m2v_model.specs.Streams.{value_of}
 use Rattle.m2v_model.specs.Pieces.{is_end}
 use Rattle.m2v_model.proofs.CutLaws.{cut_cuts, joined_bits}
 use Rattle.m2v_model.proofs.ShiftLaws.{unit_bits-append}
-use Rattle.m2v_dec_piece.specs.declared.answer.Piece.{Piece}
+use Rattle.m2v_decode.specs.m2v_dec_piece.declared.answer.Piece.{Piece}
 use Rattle.m2v_law_group.specs.Groups.{group_headers, to_end, before_group, from_group, from_last_sequence}
 use Rattle.m2v_port.specs.Ends.{Change}
-use Rattle.m2v_dec_piece.specs.Cutting.{Cutting}
-use Rattle.m2v_dec_piece.specs.Sound.{IsSoundPiece}
+use Rattle.m2v_decode.specs.m2v_dec_piece.Cutting.{Cutting}
+use Rattle.m2v_decode.specs.m2v_dec_piece.Sound.{IsSoundPiece}
 use Rattle.m2v_cut.specs.declared.look.FirstPicture.{FirstPicture}
 use Rattle.m2v_decode.specs.Decoding.{whole_of}
 use Rattle.m2v_decode.proofs.EndLaws.{whole_length}

@@ -9,13 +9,13 @@ use Rattle.m2v_model.specs.declared.phase.Phase.TheVariants.{Before}
 use Rattle.m2v_model.specs.Units.{cut}
 use Rattle.m2v_model.specs.Pieces.{pieces, limit, grouped, most_input}
 use Rattle.m2v_model.specs.ByPieces.{end_of}
-use Rattle.m2v_dec_piece.specs.declared.answer.Piece.{Piece}
-use Rattle.m2v_dec_piece.specs.declared.answer.DecodeError.{DecodeError}
-use Rattle.m2v_dec_piece.specs.declared.answer.DecodeError.TheVariants as reading
-use Rattle.m2v_dec_piece.specs.Cutting.{Cutting, left_of, IsReading, PieceStops, open_start, open_pieces}
-use Rattle.m2v_dec_piece.specs.Cutting.{start_of as start_of_rest}
-use Rattle.m2v_dec_piece.specs.Sound.{IsSoundPiece}
-use Rattle.m2v_dec_piece.specs.Stepping.{Handed, Stopped, NextPiece, Keeps}
+use Rattle.m2v_decode.specs.m2v_dec_piece.declared.answer.Piece.{Piece}
+use Rattle.m2v_decode.specs.m2v_dec_piece.declared.answer.DecodeError.{DecodeError}
+use Rattle.m2v_decode.specs.m2v_dec_piece.declared.answer.DecodeError.TheVariants as reading
+use Rattle.m2v_decode.specs.m2v_dec_piece.Cutting.{Cutting, left_of, IsReading, PieceStops, open_start, open_pieces}
+use Rattle.m2v_decode.specs.m2v_dec_piece.Cutting.{start_of as start_of_rest}
+use Rattle.m2v_decode.specs.m2v_dec_piece.Sound.{IsSoundPiece}
+use Rattle.m2v_decode.specs.m2v_dec_piece.Stepping.{Handed, Stopped, NextPiece, Keeps}
 use Rattle.m2v_decode.specs.Decoding.{whole_of}
 use Rattle.m2v_decode.specs.Answers.{start_of, AllFit, OfText, OfTaken}
 use Rattle.m2v_decode.specs.Progress.{before_all}

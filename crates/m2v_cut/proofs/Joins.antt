@@ -7,8 +7,8 @@ use Rattle.m2v_port.proofs.Runs.{moves_on}
 use Rattle.m2v_model.specs.Pieces.{pieces, limit}
 use Rattle.m2v_model.specs.ByPieces.{end_of}
 use Rattle.m2v_model.proofs.PieceLaws.{end_of-append}
-use Rattle.m2v_dec_piece.specs.Cutting.{Cutting, left_of}
-use Rattle.m2v_dec_piece.specs.Cutting.{start_of as start_of_rest}
+use Rattle.m2v_decode.specs.m2v_dec_piece.Cutting.{Cutting, left_of}
+use Rattle.m2v_decode.specs.m2v_dec_piece.Cutting.{start_of as start_of_rest}
 use Rattle.m2v_decode.specs.Answers.{start_of, AllFit}
 use Rattle.m2v_decode.proofs.Going.{moved_some}
 use Rattle.m2v_cut.specs.Progress.{Reached, Progress, Led, Onward, ReadOn, bytes_of, all_bytes, all_groups, all_lengths}

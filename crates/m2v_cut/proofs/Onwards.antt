@@ -9,12 +9,12 @@ use Rattle.m2v_model.specs.Units.{cut, joined}
 use Rattle.m2v_model.proofs.CutLaws.{cut_cuts, joined_bits}
 use Rattle.m2v_model.specs.Pieces.{limit, most_input}
 use Rattle.m2v_model.specs.ByPieces.{end_of}
-use Rattle.m2v_dec_piece.specs.declared.answer.Piece.{Piece}
-use Rattle.m2v_dec_piece.specs.declared.answer.DecodeError.{DecodeError}
-use Rattle.m2v_dec_piece.specs.declared.answer.DecodeError.TheVariants as reading
-use Rattle.m2v_dec_piece.specs.Cutting.{Cutting, left_of, IsReading, PieceStops}
-use Rattle.m2v_dec_piece.specs.Cutting.{start_of as start_of_rest}
-use Rattle.m2v_dec_piece.specs.Stepping.{Handed, Stopped, Keeps}
+use Rattle.m2v_decode.specs.m2v_dec_piece.declared.answer.Piece.{Piece}
+use Rattle.m2v_decode.specs.m2v_dec_piece.declared.answer.DecodeError.{DecodeError}
+use Rattle.m2v_decode.specs.m2v_dec_piece.declared.answer.DecodeError.TheVariants as reading
+use Rattle.m2v_decode.specs.m2v_dec_piece.Cutting.{Cutting, left_of, IsReading, PieceStops}
+use Rattle.m2v_decode.specs.m2v_dec_piece.Cutting.{start_of as start_of_rest}
+use Rattle.m2v_decode.specs.m2v_dec_piece.Stepping.{Handed, Stopped, Keeps}
 use Rattle.m2v_decode.specs.Decoding.{whole_of}
 use Rattle.m2v_decode.specs.Answers.{AllFit}
 use Rattle.m2v_decode.proofs.Going.{gave, moved_some}
@@ -23,7 +23,7 @@ use Rattle.m2v_cut.specs.declared.answer.CutError.TheVariants as errors
 use Rattle.m2v_cut.specs.declared.copy.Copied.{Copied}
 use Rattle.m2v_cut.specs.Answers.{units_of, groups_of}
 use Rattle.m2v_cut.specs.Progress.{Led, Onward, ReadOn, RestPut, RestRead, RestCut, RestStops, RestFails, PutEnds, HasPut, Cuts, bytes_of, all_bytes, all_groups, all_lengths, reading_error}
-use Rattle.m2v_dec_piece.specs.Sound.{IsSoundPiece}
+use Rattle.m2v_decode.specs.m2v_dec_piece.Sound.{IsSoundPiece}
 use Rattle.m2v_cut.specs.declared.look.FirstPicture.{FirstPicture}
 use Rattle.m2v_cut.specs.Starts.{is_field_number, Second, SecondFails}
 use Rattle.m2v_cut.proofs.Going.{start_place, groups_more, end_more, fit_more}

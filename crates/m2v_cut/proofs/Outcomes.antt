@@ -8,9 +8,9 @@ use Rattle.m2v_port.proofs.Runs.{moves_on, prefix_of_more}
 use Rattle.m2v_model.specs.Units.{Units, cut, joined}
 use Rattle.m2v_model.specs.Pieces.{pieces, limit, most_input}
 use Rattle.m2v_model.specs.ByPieces.{end_of}
-use Rattle.m2v_dec_piece.specs.declared.answer.Piece.{Piece}
-use Rattle.m2v_dec_piece.specs.Cutting.{Cutting, left_of}
-use Rattle.m2v_dec_piece.specs.Cutting.{start_of as start_of_rest}
+use Rattle.m2v_decode.specs.m2v_dec_piece.declared.answer.Piece.{Piece}
+use Rattle.m2v_decode.specs.m2v_dec_piece.Cutting.{Cutting, left_of}
+use Rattle.m2v_decode.specs.m2v_dec_piece.Cutting.{start_of as start_of_rest}
 use Rattle.m2v_decode.specs.Decoding.{whole_of}
 use Rattle.m2v_decode.proofs.EndLaws.{whole_length}
 use Rattle.m2v_decode.specs.Answers.{start_of, AllFit, OfText, OfTaken}

@@ -5,13 +5,13 @@ use Rattle.std.specs.Prelude.{nat_eq, nat_lt, is_some, if◌then◌else◌}
 use Rattle.std.proofs.lemmas.List.{append-nil, length-append}
 use Rattle.m2v_port.specs.Ends.{Change, change}
 use Rattle.m2v_port.proofs.Runs.{moves_on}
-use Rattle.m2v_dec_piece.specs.Cutting.{Cutting, left_of}
+use Rattle.m2v_decode.specs.m2v_dec_piece.Cutting.{Cutting, left_of}
 use Rattle.m2v_model.specs.Units.{Units, cut, joined, unit_bits}
 use Rattle.m2v_model.specs.Pieces.{pieces, limit, Limit}
 use Rattle.m2v_model.specs.ByPieces.{end_of}
 use Rattle.m2v_model.proofs.CutLaws.{joined-append, joined_bits}
 use Rattle.m2v_model.proofs.ShiftLaws.{unit_bits-append}
-use Rattle.m2v_dec_piece.specs.declared.answer.Piece.{Piece}
+use Rattle.m2v_decode.specs.m2v_dec_piece.declared.answer.Piece.{Piece}
 use Rattle.m2v_decode.specs.Decoding.{whole_of}
 use Rattle.m2v_decode.specs.Answers.{start_of, OfText}
 use Rattle.m2v_law_group.specs.Groups.{has_picture, group_headers, groups_in, group_place, from_group, before_group, cut_units, stream_units, is_standalone}

@@ -6,11 +6,11 @@ use Rattle.m2v_port.proofs.Runs.{moves_on, grows_on, rose_since}
 use Rattle.m2v_model.specs.Units.{cut}
 use Rattle.m2v_model.specs.Pieces.{limit, Limit, too_long, too_large, most_input}
 use Rattle.m2v_model.specs.ByPieces.{end_of}
-use Rattle.m2v_dec_piece.specs.declared.answer.Piece.{Piece}
-use Rattle.m2v_dec_piece.specs.declared.answer.DecodeError.{DecodeError}
-use Rattle.m2v_dec_piece.specs.declared.answer.DecodeError.TheVariants as reading
-use Rattle.m2v_dec_piece.specs.Cutting.{Cutting, PieceStops, Passes, left_of}
-use Rattle.m2v_dec_piece.specs.Cutting.{start_of as start_of_rest}
+use Rattle.m2v_decode.specs.m2v_dec_piece.declared.answer.Piece.{Piece}
+use Rattle.m2v_decode.specs.m2v_dec_piece.declared.answer.DecodeError.{DecodeError}
+use Rattle.m2v_decode.specs.m2v_dec_piece.declared.answer.DecodeError.TheVariants as reading
+use Rattle.m2v_decode.specs.m2v_dec_piece.Cutting.{Cutting, PieceStops, Passes, left_of}
+use Rattle.m2v_decode.specs.m2v_dec_piece.Cutting.{start_of as start_of_rest}
 use Rattle.m2v_decode.specs.Decoding.{whole_of}
 use Rattle.m2v_decode.specs.Answers.{start_of, OfText}
 use Rattle.m2v_decode.proofs.AnswerLaws.{ends_low}

@@ -7,8 +7,8 @@ use Rattle.m2v_port.specs.Port.{Grows, GrowsByPrefix}
 use Rattle.m2v_port.proofs.Runs.{moves_on, grows_on, prefix_on, rose_since}
 use Rattle.m2v_model.specs.Units.{cut, joined}
 use Rattle.m2v_model.specs.Pieces.{pieces}
-use Rattle.m2v_dec_piece.specs.declared.answer.Piece.{Piece}
-use Rattle.m2v_dec_piece.specs.Cutting.{Cutting, left_of}
+use Rattle.m2v_decode.specs.m2v_dec_piece.declared.answer.Piece.{Piece}
+use Rattle.m2v_decode.specs.m2v_dec_piece.Cutting.{Cutting, left_of}
 use Rattle.m2v_decode.specs.Decoding.{whole_of}
 use Rattle.m2v_decode.specs.Answers.{start_of, OfText, OfTaken}
 use Rattle.m2v_decode.proofs.Going.{moved_some}

@@ -8,7 +8,7 @@ use Rattle.m2v_model.specs.Units.{Units, cut, unit_bits, joined}
 use Rattle.m2v_model.proofs.CutLaws.{joined-append, joined_bits}
 use Rattle.m2v_model.proofs.ShiftLaws.{BeginsPiece, unit_bits-append}
 use Rattle.m2v_law_group.specs.Groups.{is_group, has_picture, has_sequence, group_headers, from_last_sequence, before_group, from_group, first_groups, broken_header, with_broken_link, behind_cut, cut_units}
-use Rattle.m2v_dec_piece.specs.declared.answer.Piece.{Piece}
+use Rattle.m2v_decode.specs.m2v_dec_piece.declared.answer.Piece.{Piece}
 use Rattle.m2v_cut.specs.declared.start.Start.{Start}
 use Rattle.m2v_cut.specs.Answers.{first_picture, has_intra, groups_of}
 use Rattle.m2v_cut.specs.Progress.{part, head_of, bytes_of, all_bytes, all_groups, are_some}

@@ -2,9 +2,9 @@
 use Rattle.std.specs.Prelude.{◌≡◌, ℕ, ◌+◌, ◌≤◌, List, [], ◌∷◌, ◌++◌, Option, Some, None}
 use Rattle.m2v_port.specs.Ends.{Change}
 use Rattle.m2v_port.specs.Port.{Grows, GrowsByPrefix}
-use Rattle.m2v_dec_piece.specs.declared.answer.DecodeError.{DecodeError}
-use Rattle.m2v_dec_piece.specs.declared.answer.DecodeError.TheVariants as reading
-use Rattle.m2v_dec_piece.specs.Cutting.{Cutting, PieceStops, left_of, start_of as start_of_rest}
+use Rattle.m2v_decode.specs.m2v_dec_piece.declared.answer.DecodeError.{DecodeError}
+use Rattle.m2v_decode.specs.m2v_dec_piece.declared.answer.DecodeError.TheVariants as reading
+use Rattle.m2v_decode.specs.m2v_dec_piece.Cutting.{Cutting, PieceStops, left_of, start_of as start_of_rest}
 use Rattle.m2v_cut.specs.declared.answer.CutError.{CutError}
 use Rattle.m2v_cut.specs.declared.answer.CutError.TheVariants as errors
 use Rattle.m2v_cut.specs.declared.copy.Copied.{Copied}

@@ -5,11 +5,11 @@ use Rattle.m2v_port.specs.Port.{Moves, Grows, GrowsByPrefix}
 use Rattle.m2v_model.specs.Units.{joined}
 use Rattle.m2v_model.specs.Pieces.{pieces, most_input}
 use Rattle.m2v_model.specs.ByPieces.{end_of}
-use Rattle.m2v_dec_piece.specs.declared.answer.DecodeError.{DecodeError}
-use Rattle.m2v_dec_piece.specs.declared.answer.DecodeError.TheVariants as reading
-use Rattle.m2v_dec_piece.specs.Cutting.{Cutting, PieceStops, left_of, start_of as start_of_rest}
-use Rattle.m2v_dec_piece.specs.Sound.{IsSoundPiece}
-use Rattle.m2v_dec_piece.specs.Stepping.{Keeps}
+use Rattle.m2v_decode.specs.m2v_dec_piece.declared.answer.DecodeError.{DecodeError}
+use Rattle.m2v_decode.specs.m2v_dec_piece.declared.answer.DecodeError.TheVariants as reading
+use Rattle.m2v_decode.specs.m2v_dec_piece.Cutting.{Cutting, PieceStops, left_of, start_of as start_of_rest}
+use Rattle.m2v_decode.specs.m2v_dec_piece.Sound.{IsSoundPiece}
+use Rattle.m2v_decode.specs.m2v_dec_piece.Stepping.{Keeps}
 use Rattle.m2v_decode.specs.Decoding.{whole_of}
 use Rattle.m2v_decode.specs.Answers.{OfText, OfTaken, AllFit, start_of}
 use Rattle.m2v_law_group.specs.Groups.{groups_in, with_broken_link}

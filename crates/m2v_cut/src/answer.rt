@@ -1,4 +1,4 @@
-use m2v_dec_piece::Memory;
+use m2v_decode::Memory;
 
 /// What was cut out.
 #[derive(Clone, Copy, Debug, PartialEq, Eq)]

@@ -1,13 +1,13 @@
 //! The pieces behind a group's first one.
 ghost use Rattle.std.specs.Prelude.{◌≡◌, ◌⊎◌, ◌+◌, ◌^◌, ◌≤◌, true, false, IsTrue, IfErr, IfSome, OnOk};
 ghost use Rattle.m2v_port.specs.Ends.{change, SinkStays};
-ghost use Rattle.m2v_dec_piece.specs.Sound.{IsSoundPiece};
+ghost use Rattle.m2v_decode.specs.m2v_dec_piece.Sound.{IsSoundPiece};
 ghost use Rattle.m2v_cut.specs.Starts.{piece_list};
 ghost use Rattle.m2v_cut.specs.Behind.{BehindPut, BehindFails};
 
 use crate::answer::CutError;
 use crate::copy::{Copied, put_rest, put_second};
-use m2v_dec_piece::{Cutter, Piece};
+use m2v_decode::{Cutter, Piece};
 use m2v_port::{Sink, Source};
 use std::alloc::Global;
 

@@ -2,7 +2,7 @@
 ghost use Rattle.std.specs.Prelude.{◌≡◌, ◌⊎◌, ◌+◌, ◌*◌, ◌^◌, ◌≤◌, ◌<◌, ◌++◌, length, IsTrue, IfOk, IfErr, IfSome, OnOk, true, false};
 ghost use Rattle.m2v_port.specs.Ends.{change, SinkStays};
 ghost use Rattle.m2v_port.specs.Port.{Grows};
-ghost use Rattle.m2v_dec_piece.specs.Sound.{IsSoundPiece};
+ghost use Rattle.m2v_decode.specs.m2v_dec_piece.Sound.{IsSoundPiece};
 ghost use Rattle.m2v_decode.specs.Decoding.{whole_of};
 ghost use Rattle.m2v_cut.specs.Answers.{groups_of};
 ghost use Rattle.m2v_cut.specs.Progress.{Cuts, bytes_of, all_bytes, all_groups, HasPut, SecondPut, RestPut, RestFails};
@@ -12,7 +12,7 @@ use crate::answer::CutError;
 use crate::find::reading;
 use crate::look::{count, units};
 use crate::put::put_part;
-use m2v_dec_piece::{Cutter, Piece};
+use m2v_decode::{Cutter, Piece};
 use m2v_port::{Sink, Source};
 use std::alloc::Global;
 

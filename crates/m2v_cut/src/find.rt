@@ -1,8 +1,8 @@
 //! The piece that holds the header of a group.
 ghost use Rattle.std.specs.Prelude.{◌≡◌, ◌+◌, ◌≤◌, ◌<◌, IfOk, IfErr};
 ghost use Rattle.m2v_port.specs.Ends.{change};
-ghost use Rattle.m2v_dec_piece.specs.Cutting.{IsReading};
-ghost use Rattle.m2v_dec_piece.specs.Sound.{IsSoundPiece};
+ghost use Rattle.m2v_decode.specs.m2v_dec_piece.Cutting.{IsReading};
+ghost use Rattle.m2v_decode.specs.m2v_dec_piece.Sound.{IsSoundPiece};
 ghost use Rattle.m2v_decode.specs.Decoding.{whole_of};
 ghost use Rattle.m2v_decode.specs.Progress.{before_all};
 ghost use Rattle.m2v_cut.specs.Answers.{groups_of};
@@ -10,7 +10,7 @@ ghost use Rattle.m2v_cut.specs.Progress.{IsFound, FindFails, reading_error};
 
 use crate::answer::CutError;
 use crate::look::{count, units};
-use m2v_dec_piece::{Cutter, DecodeError, Piece};
+use m2v_decode::{Cutter, DecodeError, Piece};
 use m2v_port::Source;
 use std::alloc::Global;
 

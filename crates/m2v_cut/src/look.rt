@@ -2,14 +2,14 @@
 ghost use Rattle.std.specs.Prelude.{◌≡◌, ◌+◌, ◌-◌, ◌*◌, ◌^◌, ◌<◌, ◌≤◌, ◌++◌, Bool, true, false, length, drop, nat_eq, nat_le, is_some, IfSome, IfNone, Some, None};
 ghost use Rattle.m2v_model.specs.Units.{unit_bits, body, Next};
 ghost use Rattle.m2v_model.specs.Looking.{number_from};
-ghost use Rattle.m2v_dec_piece.specs.Sound.{IsSoundPiece};
+ghost use Rattle.m2v_decode.specs.m2v_dec_piece.Sound.{IsSoundPiece};
 ghost use Rattle.m2v_decode.specs.Decoding.{whole_of};
 ghost use Rattle.m2v_law_group.specs.m2v_dec_unit.Texts.{units_in};
 ghost use Rattle.m2v_law_group.specs.Groups.{group_headers, to_end, from_group, before_group, is_number, is_intra, is_coding_extension, structure_of, next_unit};
 ghost use Rattle.m2v_cut.specs.Answers.{first_picture, has_intra, picture_structure, or_none};
 ghost use Rattle.m2v_cut.specs.Looks.{IsLastSequence, IsNumberBehind, last_behind, structure_in};
 
-use m2v_dec_piece::Piece;
+use m2v_decode::Piece;
 use m2v_law_group::dec_unit::{Unit, UnitReader};
 
 /// The values of units: a picture, the sequence header, an extension, the sequence end code and a group header.

@@ -2,13 +2,13 @@
 ghost use Rattle.std.specs.Prelude.{◌≡◌, ◌+◌, ◌-◌, ◌≤◌, ◌<◌, ◌∷◌, ◌++◌, [], length, take, drop, replicate, slice_index, IsTrue, IfErr, OnOk, Ok};
 ghost use Rattle.m2v_port.specs.Ends.{change, SinkStays};
 ghost use Rattle.m2v_port.specs.Port.{Grows};
-ghost use Rattle.m2v_dec_piece.specs.Sound.{IsSoundPiece};
+ghost use Rattle.m2v_decode.specs.m2v_dec_piece.Sound.{IsSoundPiece};
 ghost use Rattle.m2v_decode.specs.Decoding.{whole_of};
 ghost use Rattle.m2v_law_group.specs.Groups.{with_broken_link};
 ghost use Rattle.m2v_cut.specs.Progress.{Cuts, part, head_of};
 
 use crate::answer::CutError;
-use m2v_dec_piece::Piece;
+use m2v_decode::Piece;
 use m2v_port::{PortError, Sink};
 
 /// How many zero bytes are written at once.

@@ -7,7 +7,7 @@ use crate::answer::CutError;
 use crate::find::reading;
 use crate::look::FirstPicture;
 use crate::start::is_field;
-use m2v_dec_piece::{Cutter, Piece};
+use m2v_decode::{Cutter, Piece};
 use m2v_port::Source;
 use std::alloc::Global;
 

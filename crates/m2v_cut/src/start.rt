@@ -1,7 +1,7 @@
 //! Whether a group can be cut out, and where the cut begins.
 ghost use Rattle.std.specs.Prelude.{◌≡◌, ◌+◌, ◌-◌, ◌/◌, ◌≤◌, ◌<◌, ◌^◌, false, IfOk, IfErr, IfSome, IfNone, IsErrOf, OnOk};
 ghost use Rattle.m2v_port.specs.Port.{Rose};
-ghost use Rattle.m2v_dec_piece.specs.Sound.{IsSoundPiece};
+ghost use Rattle.m2v_decode.specs.m2v_dec_piece.Sound.{IsSoundPiece};
 ghost use Rattle.m2v_decode.specs.Decoding.{whole_of};
 ghost use Rattle.m2v_law_group.specs.m2v_dec_unit.Texts.{units_in};
 ghost use Rattle.m2v_law_group.specs.Groups.{group_headers, before_group, from_group};
@@ -9,7 +9,7 @@ ghost use Rattle.m2v_cut.specs.Answers.{first_picture};
 ghost use Rattle.m2v_cut.specs.Starts.{IsSequencePlace, IsLooked, IsStart, is_field_number, is_other, is_intra_frame, cut_place};
 
 use crate::look::{FirstPicture, first, last_sequence, to_header, units};
-use m2v_dec_piece::Piece;
+use m2v_decode::Piece;
 
 /// What a group's piece tells of it: the places in it of the last sequence header before the group and of the group's
 /// header, in bytes, whether that header has its 27 bits, and the first picture behind it.

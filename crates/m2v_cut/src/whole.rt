@@ -1,7 +1,7 @@
 ghost use Rattle.std.specs.Prelude.{◌≡◌, ℕ, ◌+◌, ◌^◌, ◌≤◌, ◌<◌, true, false, length, IsTrue, IfOk, IfErr};
 ghost use Rattle.m2v_port.specs.Ends.{change, Tells, SinkStays};
 ghost use Rattle.m2v_decode.specs.Answers.{OfText};
-ghost use Rattle.m2v_dec_piece.specs.Sound.{IsSoundPiece};
+ghost use Rattle.m2v_decode.specs.m2v_dec_piece.Sound.{IsSoundPiece};
 ghost use Rattle.m2v_decode.specs.Decoding.{whole_of};
 ghost use Rattle.m2v_law_group.specs.Chosen.{CutDecodes};
 ghost use Rattle.m2v_cut.specs.Answers.{IsCutOut, Fails, Gives, answer_to, groups_of};
@@ -14,7 +14,7 @@ use crate::find::{Found, find};
 use crate::put::{put, put_first};
 use crate::second::second_piece;
 use crate::start::{cuttable, start_in};
-use m2v_dec_piece::Cutter;
+use m2v_decode::Cutter;
 use m2v_port::{Sink, Source};
 use std::alloc::Global;
 

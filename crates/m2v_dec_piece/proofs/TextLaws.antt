@@ -10,8 +10,8 @@ use Rattle.m2v_model.specs.Pieces.{before_pieces, before_sequence, begins_piece,
 use Rattle.m2v_model.proofs.CutLaws.{cut_cuts}
 use Rattle.m2v_model.proofs.PieceLaws.{IsOpen, open_after}
 use Rattle.m2v_dec_piece.specs.declared.answer.Piece.{Piece}
-use Rattle.m2v_dec_piece.specs.Following.{following, text_after}
-use Rattle.m2v_dec_piece.specs.Cutting.{Cutting, follows_of, left_of, open_pieces, open_start, start_of}
+use Rattle.m2v_dec_piece.specs.Following.{following, following_in, text_after}
+use Rattle.m2v_dec_piece.specs.Cutting.{Cutting, follows_of, left_of, open_pieces, open_start, phase_for, start_of}
 use Rattle.m2v_dec_piece.specs.Stepping.{Handed}
 use Rattle.m2v_dec_piece.specs.Texts.{ComesToNext, IsAllOf, ReadsOn}
 use Rattle.m2v_dec_piece.proofs.PieceLaws.{before_any}
@@ -80,6 +80,15 @@ start_anew c text begun ended = rw (begun, ended) refl
 
 pub follows_anew : (c : Cutting) (text : List ℕ) → c.begun ≡ false → c.ended ≡ false → follows_of c text ≡ text_after (c.unread ++ text)
 follows_anew c text begun ended = rw (begun, ended) refl
+
+-- behind a first sequence header what is left and what follows are all that is unread
+whole_by : (begun ended : Bool) (text : List ℕ) → begun ≡ true → joined (if ended then [] else open_pieces (phase_for begun) [] text) ++ (if ended then text else following_in begun text) ≡ text
+unfolding open_pieces
+whole_by begun true text b = refl
+whole_by begun false text b = rw b (open_whole Headers (cut 0 text).0 (cut 0 text).1 tt ∙ sym (cut_cuts text).whole)
+
+pub left_whole : (c : Cutting) (text : List ℕ) → c.begun ≡ true → joined (left_of c text) ++ follows_of c text ≡ c.unread ++ text
+left_whole c text begun = whole_by c.begun c.ended (c.unread ++ text) begun
 
 -- ---- from one text to the next
 

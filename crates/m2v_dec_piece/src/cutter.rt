@@ -280,6 +280,15 @@ impl Cutter {
         requires going { self.old.failed ≡ false }
         ensures { self.new ≡ record self.old { begun = false; ended = false } }
     {
+        self.begin_anew();
+    }
+
+    /// Takes what is left as a text of its own, before the end of the sequence too: the next piece is the first one of this
+    /// text, from its own first sequence header on.
+    pub fn begin_anew(&mut self)
+        requires going { self.old.failed ≡ false }
+        ensures { self.new ≡ record self.old { begun = false; ended = false } }
+    {
         self.hand.go_on();
         self.ended = false;
     }

@@ -10,3 +10,4 @@ pub mod Reading
 pub mod Passing
 pub use Rattle.m2v_dec_rows.specs.m2v_dec_picture
 pub use Rattle.m2v_dec_rows.specs as m2v_dec_rows
+pub use Rattle.m2v_dec_piece.specs as m2v_dec_piece

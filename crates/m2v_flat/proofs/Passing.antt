@@ -17,6 +17,7 @@ pub record InBounds (width height code quantiser : ℕ) : Type 0 where
   pub width_most : width ≤ 720
   pub height_least : 2 ≤ height
   pub height_most : height ≤ 576
+  pub code_least : 1 ≤ code
   pub code_most : code ≤ 5
   pub quantiser_least : 1 ≤ quantiser
   pub quantiser_most : quantiser ≤ 31
@@ -32,6 +33,7 @@ in_bounds width height code quantiser passes =
       width_most = leb-true _ _ h.1.0;
       height_least = leb-true _ _ h.1.1.1.0;
       height_most = leb-true _ _ h.1.1.1.1.0;
+      code_least = leb-true _ _ h.1.1.1.1.1.1.0;
       code_most = leb-true _ _ h.1.1.1.1.1.1.1.0;
       quantiser_least = leb-true _ _ q.0;
       quantiser_most = leb-true _ _ q.1.0;

@@ -26,10 +26,10 @@ use Rattle.m2v_flat.proofs.Frames.{parts_show, first_state}
 
 -- ---- the stream is cut into its units
 
-abbrev stream_bytes : FlatSettings → List (List ℕ) → Units
+abbrev pub stream_bytes : FlatSettings → List (List ℕ) → Units
 stream_bytes s frames = sequence_bytes s ∷ extension_bytes ∷ (pictures_bytes s 0 frames ++ end_bytes ∷ [])
 
-sequence_packs : (s : FlatSettings) → IsFlat s → Packs (sequence_units s) (sequence_bytes s ∷ extension_bytes ∷ [])
+pub sequence_packs : (s : FlatSettings) → IsFlat s → Packs (sequence_units s) (sequence_bytes s ∷ extension_bytes ∷ [])
 unfolding sequence_units
 sequence_packs s h =
     packs_append _ _ (sequence_bytes s ∷ []) (extension_bytes ∷ [])
@@ -42,20 +42,26 @@ rows_pack quantiser frame few =
     packs_map (slice_unit quantiser frame) (slice_bytes quantiser frame) 0 frame.dims.mb_rows
     (λ row lt. packs_unit (row + 1) (slice_text (flat_slice quantiser) ++ row_text frame row) (omega arith) (slice_calm quantiser frame row))
 
+pub picture_packs : (s : FlatSettings) (number : ℕ) (frame : Samples) → frame.dims.mb_rows ≤ 36
+    → Packs (picture_units s number frame) (picture_bytes number ∷ coding_bytes ∷ rows_bytes s.quantiser frame 0 frame.dims.mb_rows)
+unfolding picture_units
+picture_packs s number frame few =
+    let rows = rows_bytes s.quantiser frame 0 frame.dims.mb_rows in
+    packs_append _ _ (picture_bytes number ∷ []) (coding_bytes ∷ rows)
+    (packs_unit 0x00 (picture_text (flat_picture number)) (omega arith) (picture_calm number))
+    (packs_append _ _ (coding_bytes ∷ []) rows
+    (packs_unit 0xB5 (picture_extension_text flat_picture_extension) (omega arith) picture_extension_calm)
+    (rows_pack s.quantiser frame few))
+
 pictures_pack : (s : FlatSettings) (frames : List (List ℕ)) (number : ℕ) → IsFlat s → Packs (pictures_from s number frames) (pictures_bytes s number frames)
-unfolding pictures_from pictures_bytes picture_units
+unfolding pictures_from pictures_bytes
 pictures_pack s [] number h = packs_none
 pictures_pack s (raw ∷ frames) number h =
     let frame = pad s.dims raw in
     packs_append _ _ (picture_bytes number ∷ coding_bytes ∷ rows_bytes s.quantiser frame 0 s.dims.mb_rows) (pictures_bytes s (number + 1) frames)
-    (packs_append _ _ (picture_bytes number ∷ []) (coding_bytes ∷ rows_bytes s.quantiser frame 0 s.dims.mb_rows)
-    (packs_unit 0x00 (picture_text (flat_picture number)) (omega arith) (picture_calm number))
-    (packs_append _ _ (coding_bytes ∷ []) (rows_bytes s.quantiser frame 0 s.dims.mb_rows)
-    (packs_unit 0xB5 (picture_extension_text flat_picture_extension) (omega arith) picture_extension_calm)
-    (rows_pack s.quantiser frame h.rows.1)))
-    (pictures_pack s frames (number + 1) h)
+    (picture_packs s number frame h.rows.1) (pictures_pack s frames (number + 1) h)
 
-stream_packs : (s : FlatSettings) (raw : List ℕ) (frames : List (List ℕ)) → IsFlat s → Packs (flat_text s (raw ∷ frames)) (stream_bytes s (raw ∷ frames))
+pub stream_packs : (s : FlatSettings) (raw : List ℕ) (frames : List (List ℕ)) → IsFlat s → Packs (flat_text s (raw ∷ frames)) (stream_bytes s (raw ∷ frames))
 unfolding flat_text
 stream_packs s raw frames h =
     packs_append _ _ (sequence_bytes s ∷ extension_bytes ∷ []) (pictures_bytes s 0 (raw ∷ frames) ++ end_bytes ∷ []) (sequence_packs s h)

@@ -47,6 +47,7 @@ pub record Turn (b : Between) (p : List ℕ) (later : List (List ℕ)) (es : Eve
   pub headed : AreHeaded b.state.sequence own
   pub sequence : next.state.sequence ≡ last_in b.state.sequence own
   pub one : IsOne (length (pictures_in own)) later
+  pub shut : b.state.picture ≡ None
 
 -- it is read so wherever it ends
 pub turn_read : (b : Between) (p : List ℕ) (later : List (List ℕ)) (es : Events) (t : Turn b p later es) (end : ℕ) → piece_read b end p ≡ Ok (t.own, t.next)
@@ -115,6 +116,7 @@ turns_of (p ∷ ps) b at es last e turn ready =
       headed = (s.says).headed;
       sequence = (s.says).sequence;
       one = one.0;
+      shut = ready.shut;
     } in
     record {
       turns = (here, more.turns);

@@ -17,7 +17,7 @@ use Rattle.m2v_audit.specs.declared.headers.PieceHeader.{PieceHeader}
 use Rattle.m2v_audit.specs.declared.headers.PieceHeader.TheVariants as headers
 use Rattle.m2v_audit.specs.declared.records.Finding.{Finding}
 use Rattle.m2v_audit.specs.declared.auditing.Auditing.{Auditing}
-use Rattle.m2v_audit.specs.Auditing.{bit_of, coded, counted, waiting_of, with_sequence, with_group, with_header, sequences_of, with_headers, with_note as noted_with, with_coded as coded_with}
+use Rattle.m2v_audit.specs.Auditing.{leading, behind, bit_of, coded, preceding, counted, waiting_of, with_sequence, with_group, with_header, sequences_of, with_headers, with_note as noted_with, with_coded as coded_with}
 use Rattle.m2v_audit.specs.Places.{told_with_frame, told_at_close}
 use Rattle.m2v_law_audit.specs.Breaches.{as_judged}
 use Rattle.m2v_law_audit.specs.Found.{judged_in, found_at, found_misplaced, sequence_found, group_found, picture_found, header_found, headers_found, rules_of, places_found, coded_found, note_found}
@@ -32,7 +32,7 @@ abbrev pub kept : Auditing → Kept
 kept a = record { sequence = a.sequence; first_in_group = a.first_in_group; pictures = a.pictures; constant = a.constant; places = a.places }
 
 -- what the stricter rules find is none of the verifier's
-beside : (fs gs : List Finding) (bs : Breaches) → judged fs ≡ bs → judged_in gs ≡ [] → judged (fs ++ gs) ≡ bs
+pub beside : (fs gs : List Finding) (bs : Breaches) → judged fs ≡ bs → judged_in gs ≡ [] → judged (fs ++ gs) ≡ bs
 beside fs gs bs e f = judged-append fs gs ∙ (λ i. e i ++ map as_judged (f i)) ∙ append-nil bs
 
 -- ---- events, and others behind them
@@ -72,11 +72,11 @@ unfolding other_rules
 coded_judged a p e =
     let c = (counted a p).constant in
     let rules = found_at a.report.sequence p.number (bit_of p.note) (rules_of c p) in
-    let stricter = picture_found a.report.sequence a.rules c a.runs p in
+    let stricter = picture_found a.report.sequence a.rules (preceding a p.sequence) c a.runs p in
     let misplaced = told_with_frame a.places (waiting_of p) (is_b p.note.info.kind) in
     let as_told : judged (rules ++ stricter) ≡ rules_of c p =
     beside rules stricter (rules_of c p) (judged_as a.report.sequence p.number (bit_of p.note) (rules_of c p) (others_of c (numbered_of p)))
-    (picture_stricter a.report.sequence a.rules c a.runs p) in
+    (picture_stricter a.report.sequence a.rules (preceding a p.sequence) c a.runs p) in
     judged-append (rules ++ stricter) (places_found a.report.sequence a.places p)
     ∙ (λ i. as_told i
     ++ judged_if (ends_frame p.note) (found_misplaced a.report.sequence misplaced) (place_breaches misplaced) (judged_places a.report.sequence misplaced) i)
@@ -100,22 +100,22 @@ note_kept a (Some s) n place bytes ending = coded_kept a (coded a s n) place byt
 header_judged : (a : Auditing) (bit : ℕ) (s : Sequence) →
     let n = a.report.sequence in
     let bs = sequence_breaches (s ∷ []) in
-    judged (found_at n a.pictures bit bs ++ sequence_found n a.rules a.pictures bit (first_or a.first s) s) ≡ bs
+    judged (found_at n a.pictures bit bs ++ sequence_found n a.rules a.like (leading a) a.pictures bit (first_or a.first s) s) ≡ bs
 header_judged a bit s =
     let n = a.report.sequence in
     let bs = sequence_breaches (s ∷ []) in
-    beside (found_at n a.pictures bit bs) (sequence_found n a.rules a.pictures bit (first_or a.first s) s) bs
-    (judged_as n a.pictures bit bs (header_of a.pictures s)) (sequence_stricter n a.rules a.pictures bit (first_or a.first s) s)
+    beside (found_at n a.pictures bit bs) (sequence_found n a.rules a.like (leading a) a.pictures bit (first_or a.first s) s) bs
+    (judged_as n a.pictures bit bs (header_of a.pictures s)) (sequence_stricter n a.rules a.like (leading a) a.pictures bit (first_or a.first s) s)
 
 group_judged : (a : Auditing) (bit : ℕ) (g : GroupInfo) →
     let n = a.report.sequence in
     let ms = told_at_close a.places in
-    judged (found_misplaced n ms ++ group_found n a.rules a.headed a.pictures bit a.sequence g) ≡ place_breaches ms
+    judged (found_misplaced n ms ++ group_found n a.rules (behind a) a.pictures bit a.sequence g) ≡ place_breaches ms
 group_judged a bit g =
     let n = a.report.sequence in
     let ms = told_at_close a.places in
-    beside (found_misplaced n ms) (group_found n a.rules a.headed a.pictures bit a.sequence g) (place_breaches ms)
-    (judged_places n ms) (group_stricter n a.rules a.headed a.pictures bit a.sequence g)
+    beside (found_misplaced n ms) (group_found n a.rules (behind a) a.pictures bit a.sequence g) (place_breaches ms)
+    (judged_places n ms) (group_stricter n a.rules (behind a) a.pictures bit a.sequence g)
 
 -- ---- headers, and then a picture
 
@@ -131,10 +131,10 @@ pub record Follows (a : Auditing) (ss : List Pair) (k : ℕ) (hs : List PieceHea
   pub leaves : (place bytes ending : ℕ) → kept (left_by a ss k hs (first_note end (pictures_in es)) place bytes ending) ≡ kept_behind (kept a) (marked end es)
 
 -- one header, and then others
-abbrev found_by : Auditing → PieceHeader → Option Pair → List Pair → ℕ → List PieceHeader → Option PictureNote → List Finding
+abbrev pub found_by : Auditing → PieceHeader → Option Pair → List Pair → ℕ → List PieceHeader → Option PictureNote → List Finding
 found_by a h s ss k hs n = header_found a h s ++ found_in (with_header a h s) ss k hs n
 
-header_first : (a : Auditing) (h : PieceHeader) (s : Option Pair) (ss : List Pair) (k : ℕ) (hs : List PieceHeader) (n : Option PictureNote) → slice_get ss k ≡ s
+pub header_first : (a : Auditing) (h : PieceHeader) (s : Option Pair) (ss : List Pair) (k : ℕ) (hs : List PieceHeader) (n : Option PictureNote) → slice_get ss k ≡ s
     → found_in a ss k (h ∷ hs) n ≡ found_by a h s ss (k + sequences_of h) hs n
 unfolding headers_found with_headers
 header_first a h s ss k hs n e =
@@ -143,7 +143,7 @@ header_first a h s ss k hs n e =
     append_assoc (header_found a h (slice_get ss k)) (headers_found b ss (k + sequences_of h) hs) (note_found front front.sequence n)
     ∙ ap (λ (o : Option Pair). found_by a h o ss (k + sequences_of h) hs n) e
 
-header_left : (a : Auditing) (h : PieceHeader) (s : Option Pair) (ss : List Pair) (k : ℕ) (hs : List PieceHeader) (n : Option PictureNote) (place bytes ending : ℕ) → slice_get ss k ≡ s
+pub header_left : (a : Auditing) (h : PieceHeader) (s : Option Pair) (ss : List Pair) (k : ℕ) (hs : List PieceHeader) (n : Option PictureNote) (place bytes ending : ℕ) → slice_get ss k ≡ s
     → left_by a ss k (h ∷ hs) n place bytes ending ≡ left_by (with_header a h s) ss (k + sequences_of h) hs n place bytes ending
 unfolding with_headers
 header_left a h s ss k hs n place bytes ending e = ap (λ (o : Option Pair). left_by (with_header a h o) ss (k + sequences_of h) hs n place bytes ending) e
@@ -192,3 +192,25 @@ follows (headers.Group bit x ∷ hs) (group_header y ∷ es) a ss k end f g =
     (follows hs es (with_group a bit x) ss (k + 0) end f.1
     (subst (λ (n : ℕ). GoesOn ss n (map header_pair (sequences_in es))) (omega arith) g))
 follows (headers.Group bit x ∷ hs) (coded_picture p ∷ es) a ss k end f g = absurd f
+
+-- ---- what else stands before the first slice
+
+-- what a picture tells and leaves hangs on no more than what is kept for the rules
+same_told : (a b : Auditing) (o : Option Sequence) (n : Option PictureNote) → kept a ≡ kept b → judged (note_found a o n) ≡ judged (note_found b o n)
+same_told a b o None e = refl
+same_told a b o (Some n) e = note_judged a o n ∙ ap (λ (x : Kept). note_told x o n) e ∙ sym (note_judged b o n)
+
+pub same_left : (a b : Auditing) (o : Option Sequence) (n : Option PictureNote) (place bytes ending : ℕ) → kept a ≡ kept b
+    → kept (noted_with a o n place bytes ending) ≡ kept (noted_with b o n place bytes ending)
+same_left a b o None place bytes ending e = e
+same_left a b o (Some n) place bytes ending e =
+    note_kept a o n place bytes ending ∙ ap (λ (x : Kept). with_note x o n) e ∙ sym (note_kept b o n place bytes ending)
+
+-- more findings between those of headers and those of a picture, and behind them, none of them the verifier's
+pub told_beside : (hs ds os : List Finding) (a b : Auditing) (o : Option Sequence) (n : Option PictureNote) → kept b ≡ kept a → judged_in ds ≡ [] → judged_in os ≡ []
+    → judged (((hs ++ ds) ++ note_found b o n) ++ os) ≡ judged (hs ++ note_found a o n)
+told_beside hs ds os a b o n e d q =
+    beside ((hs ++ ds) ++ note_found b o n) os (judged (hs ++ note_found a o n))
+    (judged-append (hs ++ ds) (note_found b o n)
+    ∙ (λ i. beside hs ds (judged hs) refl d i ++ same_told b a o n e i)
+    ∙ sym (judged-append hs (note_found a o n))) q

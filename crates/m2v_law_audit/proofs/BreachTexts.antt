@@ -18,17 +18,20 @@ use Rattle.m2v_audit.specs.declared.records.Finding.{Finding}
 use Rattle.m2v_audit.specs.declared.auditing.Auditing.{Auditing}
 use Rattle.m2v_audit.specs.declared.report.Rate.{Rate}
 use Rattle.m2v_audit.specs.Account.{Account}
-use Rattle.m2v_audit.specs.Auditing.{nothing, with_headers, begun, longer, pictured, settled_by, after_piece}
+use Rattle.m2v_audit.specs.Auditing.{nothing, leading, with_ending, with_headers, with_display, with_others, begun, longer, pictured, settled_by, after_piece}
 use Rattle.m2v_audit.specs.Front.{front_of}
+use Rattle.m2v_audit.specs.Others.{others_of, display_of}
 use Rattle.m2v_audit.specs.Places.{told_at_close}
 use Rattle.m2v_audit.specs.declared.asked.Asked.{Asked}
 use Rattle.m2v_law_audit.specs.Sequences.{first_byte}
 use Rattle.m2v_law_audit.specs.Breaches.{AreSame, as_judged}
-use Rattle.m2v_law_audit.specs.Found.{piece_found, end_found, all_along, all_found, findings_of, judged_in}
+use Rattle.m2v_law_audit.specs.Found.{found_misplaced, last_found, headers_found, display_found, others_found, piece_found, end_found_by, end_found, all_along, all_found, findings_of, judged_in}
 use Rattle.m2v_law_audit.proofs.BreachCounts.{many, place_breaches}
 use Rattle.m2v_law_audit.proofs.BreachJudged.{judged, judged-append, judged_places}
+use Rattle.m2v_law_audit.proofs.BreachStricter.{last_stricter}
+use Rattle.m2v_law_audit.proofs.BreachOthers.{display_stricter, others_stricter}
 use Rattle.m2v_law_audit.proofs.BreachEvents.{Kept, Marked, plain, marked, at_first, told, as_many_told}
-use Rattle.m2v_law_audit.proofs.BreachPieces.{kept, told_before, kept_behind, told-append, plain-append, plain_marked, Follows, follows}
+use Rattle.m2v_law_audit.proofs.BreachPieces.{beside, kept, same_left, told_beside, told_before, kept_behind, told-append, plain-append, plain_marked, Follows, follows}
 use Rattle.m2v_law_audit.proofs.EventsFront.{Fronts, all_go_on}
 use Rattle.m2v_law_audit.proofs.EventsPieces.{BeginWith, text_begins}
 use Rattle.m2v_law_audit.proofs.AccountReading.{Turn, Turns, in_pieces, begun_at, behind_piece, one_piece, first_header, header_stays, first_begun}
@@ -37,7 +40,7 @@ use Rattle.m2v_law_audit.proofs.PartsKept.{kept_after}
 -- ---- one piece
 
 -- the bit where the start code of its picture ends
-abbrev end_in : ℕ → List ℕ → ℕ
+abbrev pub end_in : ℕ → List ℕ → ℕ
 end_in place p = 8 * place + code_bits p
 
 settled_kept : (a : Auditing) (o : Option Account) → kept (settled_by a o) ≡ kept a
@@ -50,7 +53,17 @@ piece_follows a place p es f = follows (front_of place p) es a (map header_pair 
 piece_judged : (a : Auditing) (place : ℕ) (p : List ℕ) (es : Events) → Fronts (front_of place p) es
     → judged (piece_found a place p (notes_of place p es)) ≡ told_before (kept (begun_at a place p es)) (marked (end_in place p) es)
 unfolding notes_of
-piece_judged a place p es f = (piece_follows (begun_at a place p es) place p es f).says
+piece_judged a place p es f =
+    let b = begun_at a place p es in
+    let n = notes_of place p es in
+    let os = others_of place p in
+    let headed = with_headers b n.sequences 0 (front_of place p) in
+    let front = with_display place os headed in
+    told_beside (headers_found b n.sequences 0 (front_of place p)) (display_found place os headed)
+    (others_found front.report.sequence front.pictures os) headed front front.sequence n.picture refl
+    (display_stricter headed.report.sequence headed.pictures (8 * place) headed.headed headed.display (display_of os))
+    (others_stricter front.report.sequence front.pictures os)
+    ∙ (piece_follows b place p es f).says
 
 piece_kept : (a : Auditing) (place : ℕ) (p : List ℕ) (es : Events) → Fronts (front_of place p) es
     → kept (behind_piece a place p es) ≡ kept_behind (kept (begun_at a place p es)) (marked (end_in place p) es)
@@ -58,12 +71,16 @@ unfolding after_piece notes_of
 piece_kept a place p es f =
     let b = begun_at a place p es in
     let n = notes_of place p es in
-    let front = with_headers b n.sequences 0 (front_of place p) in
+    let os = others_of place p in
+    let headed = with_headers b n.sequences 0 (front_of place p) in
+    let front = with_display place os headed in
     let behind = pictured front place (length p) (zeros_last p) n.picture in
-    settled_kept behind behind.account ∙ (piece_follows b place p es f).leaves place (length p) (zeros_last p)
+    settled_kept (with_ending place p (with_others front.pictures os behind)) behind.account
+    ∙ same_left front headed headed.sequence n.picture place (length p) (zeros_last p) refl
+    ∙ (piece_follows b place p es f).leaves place (length p) (zeros_last p)
 
 -- the first sequence header stays
-piece_first : (a : Auditing) (place : ℕ) (p : List ℕ) (es : Events) → (behind_piece a place p es).first ≡ (begun_at a place p es).first
+pub piece_first : (a : Auditing) (place : ℕ) (p : List ℕ) (es : Events) → (behind_piece a place p es).first ≡ (begun_at a place p es).first
 piece_first a place p es = ap (λ (x : Option Sequence × Rate). x.0) (kept_after a place p (notes_of place p es))
 
 -- ---- pieces
@@ -74,13 +91,20 @@ record ToldAs (fs : List Finding) (k : Kept) (es : Events) : Type 0 where
   are : plain marks ≡ es
   says : judged fs ≡ told k marks
 
-end_told : (a : Auditing) (k : Kept) → kept a ≡ k → ToldAs (end_found a) k []
+-- the end of a sequence that began
+end_told : (a : Auditing) (first : Sequence) → a.first ≡ Some first → ToldAs (end_found a) (kept a) []
 unfolding told
-end_told a k e = record {
-  marks = [];
-  are = refl;
-  says = judged_places a.report.sequence (told_at_close a.places) ∙ ap (λ (x : Kept). place_breaches (told_at_close x.places)) e;
-}
+end_told a first e =
+    let n = a.report.sequence in
+    let waits = told_at_close a.places in
+    record {
+      marks = [];
+      are = refl;
+      says =
+          ap (λ (o : Option Sequence). judged (end_found_by o a)) e
+          ∙ beside (found_misplaced n waits) (last_found n (leading a) a.pictures a.last) (place_breaches waits) (judged_places n waits)
+          (last_stricter n (leading a) a.pictures a.last);
+    }
 
 -- a piece, and those behind it
 piece_told : (a : Auditing) (b : Between) (at : ℕ) (p : List ℕ) (ps : List (List ℕ)) (es : Events) (k : Kept) → (u : Turn b p ps es) → kept (begun_at a at p u.own) ≡ k
@@ -106,7 +130,7 @@ piece_told a b at p ps es k u begins_so later =
 -- behind the first piece
 later_told : (ps : List (List ℕ)) (a : Auditing) (b : Between) (at : ℕ) (es : Events) (x : Sequence) → a.first ≡ Some x → Turns b ps es → ToldAs (all_found a b at ps) (kept a) es
 unfolding all_along
-later_told [] a b at es x e turns = subst (ToldAs (all_found a b at []) (kept a)) (sym turns) (end_told a (kept a) refl)
+later_told [] a b at es x e turns = subst (ToldAs (all_found a b at []) (kept a)) (sym turns) (end_told a x e)
 later_told (p ∷ ps) a b at es x e turns =
     let u = turns.0 in
     let begins_so : begun_at a at p u.own ≡ longer (length p) a = ap (λ (o : Option Sequence). begun o (longer (length p) a) at (notes_of at p u.own)) e in

@@ -21,8 +21,9 @@ use Rattle.m2v_audit.specs.declared.auditing.Auditing.{Auditing}
 use Rattle.m2v_audit.specs.declared.headers.PieceHeader.{PieceHeader}
 use Rattle.m2v_audit.specs.declared.headers.PieceHeader.TheVariants as headers
 use Rattle.m2v_audit.specs.Account.{Account}
-use Rattle.m2v_audit.specs.Auditing.{nothing, longer, begun, begun_by, with_header, sequences_of, with_headers, is_shown, coded, counted, with_told, with_note, settled_by, fronted, pictured, after_piece, ended, ended_by}
+use Rattle.m2v_audit.specs.Auditing.{nothing, longer, begun, begun_by, with_header, sequences_of, with_headers, is_shown, coded, counted, with_told, with_note, settled_by, with_others, fronted, pictured, with_ending, after_piece, ended, ended_by}
 use Rattle.m2v_audit.specs.Front.{front_of}
+use Rattle.m2v_audit.specs.Others.{others_of}
 use Rattle.m2v_audit.specs.Report.{one_more}
 use Rattle.m2v_audit.proofs.m2v_check.Telling.{last_in, AreHeaded}
 use Rattle.m2v_audit.proofs.m2v_check.Onward.{none_or_one}
@@ -124,7 +125,7 @@ piece_counts a place piece es fronts headed =
     let picture = noted_picture place piece es in
     let none : d.sequence ≡ None → notes.picture ≡ None =
     λ is. picture ∙ ap (first_note (8 * place + code_bits piece)) (headed (sym (ap (λ (x : Counted). x.1) front) ∙ is)) in
-    settled_counts e e.account ∙ noted_counts d d.sequence notes.picture place (length piece) (zeros_last piece) none ∙ (λ i. with_picture (front i) (picture i))
+    settled_counts (with_ending place piece (with_others d.pictures (others_of place piece) e)) e.account ∙ noted_counts d d.sequence notes.picture place (length piece) (zeros_last piece) none ∙ (λ i. with_picture (front i) (picture i))
 
 -- ---- pieces
 

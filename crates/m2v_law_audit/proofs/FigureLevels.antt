@@ -111,7 +111,7 @@ low_from constant x b d (c ∷ ds) =
 -- ---- delays
 
 -- how many of these pictures, behind others, have another delay than the exact one
-abbrev off_from : Start → List Removal → List Due → ℕ
+abbrev pub off_from : Start → List Removal → List Due → ℕ
 off_from start before [] = 0
 off_from start before (d ∷ ds) =
     (if nat_eq d.delay (exact_delay start before (removed before + d.code_bits)) then 0 else 1) + off_from start (before ++ removal_of (picture_of d) ∷ []) ds

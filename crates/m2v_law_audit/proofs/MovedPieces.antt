@@ -17,15 +17,16 @@ use Rattle.m2v_model.proofs.PieceLaws.{placed, piece_is}
 use Rattle.m2v_audit.specs.declared.auditing.Auditing.{Auditing}
 use Rattle.m2v_audit.specs.declared.report.Rate.{Rate}
 use Rattle.m2v_audit.specs.Account.{Account, ended as all_left}
-use Rattle.m2v_audit.specs.Auditing.{nothing, after_piece, totals_of, with_left, finished, ended_by, ended, cleared, is_begun}
+use Rattle.m2v_audit.specs.Auditing.{nothing, leading, after_piece, totals_of, with_left, finished, ended_by, ended, cleared, is_begun}
 use Rattle.m2v_audit.specs.Places.{told_at_close}
 use Rattle.m2v_audit.specs.Report.{Report}
 use Rattle.m2v_audit.specs.declared.asked.Asked.{Asked}
 use Rattle.m2v_law_audit.specs.Sequences.{SequenceReport, behind, at_end, by_piece, reported, sequence_report}
 use Rattle.m2v_law_audit.specs.Moved.{Record, record_text, moved, CountAlike, IsMoved}
-use Rattle.m2v_law_audit.proofs.MovedReports.{Together, misplaced_told, removals_told, end_comes, note_on}
+use Rattle.m2v_law_audit.proofs.MovedReports.{Together, last_remarks_come, shown_come, misplaced_told, removals_told, end_comes, note_on}
 use Rattle.m2v_law_audit.proofs.MovedKept.{places_on, account_on, close_told, left_same}
-use Rattle.m2v_law_audit.proofs.MovedSteps.{Moves, step_both, beside, longer_both, notes_on, begun_both, front_both, AreFurther, pictured_both, settled_both}
+use Rattle.m2v_law_audit.proofs.MovedOthers.{display_both, others_both}
+use Rattle.m2v_law_audit.proofs.MovedSteps.{Moves, step_both, beside, longer_both, notes_on, begun_both, front_both, AreFurther, ending_both, settled_both}
 
 -- ---- a piece
 
@@ -33,8 +34,8 @@ piece_both : {n k : ℕ} {a b : Auditing} (place : ℕ) (piece : List ℕ) (note
     → Moves n k (after_piece a place piece notes) (after_piece b (place + k) piece (notes_on k notes))
 unfolding after_piece
 piece_both place piece notes e m =
-    settled_both (pictured_both notes.picture place (length piece) (zeros_last piece) e
-    (front_both notes.sequences place piece (begun_both place notes (longer_both (length piece) m))))
+    settled_both (ending_both place piece (others_both notes.picture place (zeros_last piece) piece e
+    (display_both place piece (front_both notes.sequences place piece (begun_both place notes (longer_both (length piece) m))))))
 
 -- what is noted of a piece so many bytes further on
 place_further : (k place bits : ℕ) → 8 * (place + k) + bits ≡ 8 * place + bits + 8 * k
@@ -82,7 +83,12 @@ left_both {n} {k} rate (Some x) t = removals_told rate (all_left x) (all_left (a
 
 finished_both : {n k : ℕ} (a : Auditing) (r : Report) → Together n k a.report r → Moves n k (finished a) (finished (beside k r a))
 finished_both {n} {k} a r t = record {
-  report = end_comes (totals_of a) (left_both a.rate a.account (misplaced_told (told_at_close a.places) (told_at_close (places_on k a.places)) (close_told k a.places) t));
+  report =
+      end_comes (totals_of a)
+      (last_remarks_come (leading a) a.pictures a.last
+      (left_both a.rate a.account
+      (shown_come a.parity.last a.parity.anchor
+      (misplaced_told (told_at_close a.places) (told_at_close (places_on k a.places)) (close_told k a.places) t))));
   rest = refl;
 }
 

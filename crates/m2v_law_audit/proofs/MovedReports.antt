@@ -1,6 +1,6 @@
 -- Two reports of which one has the records of the other, moved on: what each call of a report does to both.
-use Rattle.std.proofs.Common.{◌≡◌, ℕ, zero, suc, ◌+◌, ◌*◌, Bool, true, false, List, [], ◌∷◌, ◌++◌, Option, Some, None, refl, sym, ap, subst, ◌∙◌}
-use Rattle.std.specs.Prelude.{nat_eq, map, if◌then◌else◌}
+use Rattle.std.proofs.Common.{◌≡◌, ℕ, zero, suc, ◌+◌, ◌-◌, ◌*◌, Bool, true, false, List, [], ◌∷◌, ◌++◌, Option, Some, None, refl, sym, ap, subst, ◌∙◌, arith}
+use Rattle.std.specs.Prelude.{◌&&◌, not, nat_eq, nat_lt, map, if◌then◌else◌}
 use Rattle.std.specs.List.{flat_map}
 use Rattle.std.specs.Option.{option_map}
 use Rattle.std.proofs.lemmas.List.{append-nil, map-append}
@@ -14,13 +14,24 @@ use Rattle.m2v_audit.specs.m2v_check.declared.coded.CodedPicture.{CodedPicture}
 use Rattle.m2v_audit.specs.m2v_check.Breaking.{numbered_of}
 use Rattle.m2v_audit.specs.m2v_strict.declared.rule_set.RuleSet.{RuleSet}
 use Rattle.m2v_audit.specs.m2v_strict.declared.rule_set.RuleSet.TheVariants as sets
+use Rattle.m2v_audit.specs.m2v_strict.declared.leading.Leading.{Leading}
+use Rattle.m2v_audit.specs.m2v_strict.declared.preceding.Arrival.{Arrival}
+use Rattle.m2v_audit.specs.m2v_strict.declared.preceding.Preceding.{Preceding}
 use Rattle.m2v_audit.specs.m2v_strict.declared.runs.Runs.{Runs}
-use Rattle.m2v_audit.specs.m2v_strict.Remarks.{Remarks, is_warning}
+use Rattle.m2v_audit.specs.m2v_strict.declared.element.Element.TheVariants as elements
+use Rattle.m2v_audit.specs.m2v_strict.Remarks.{Remarks, remark, judge, looked_at, is_warning}
 use Rattle.m2v_audit.specs.m2v_strict.SequenceRules.{level_remarks, header_rule, extension_rule, sequence_warnings}
-use Rattle.m2v_audit.specs.m2v_strict.GroupRules.{group_remarks}
+use Rattle.m2v_audit.specs.m2v_strict.GroupRules.{group_remarks, broken_link_warning}
 use Rattle.m2v_audit.specs.m2v_strict.PictureRules.{low_delay_rule, f_code_rule, full_pel_rule, field_rule, prediction_rule, top_first_rule, interlaced_rule, repeat_by_rate_rule, dropped_warning, b_repeat_warning, delay_remarks, frame_remarks, picture_warnings}
 use Rattle.m2v_audit.specs.m2v_strict.DvdRules.{b_frames_with, fields_rule, b_frames_warning, first_group_warning, runs_with}
+use Rattle.m2v_audit.specs.m2v_strict.TimeRules.{time_warnings}
+use Rattle.m2v_audit.specs.m2v_strict.ParityRules.{parity_warning}
+use Rattle.m2v_audit.specs.m2v_strict.ArrivalRules.{time_between, arrival_rule}
+use Rattle.m2v_audit.specs.m2v_strict.OrderRules.{sequence_order_rule, group_order_rule, first_type_rule, end_remarks}
 use Rattle.m2v_audit.specs.m2v_strict.SetRules.{set_remarks, set_group_remarks, set_picture_remarks}
+use Rattle.m2v_audit.specs.declared.auditing.PieceEnd.{PieceEnd}
+use Rattle.m2v_audit.specs.declared.remarks.Behind.{Behind}
+use Rattle.m2v_audit.specs.m2v_strict.declared.parity.ShownFrame.{ShownFrame}
 use Rattle.m2v_audit.specs.declared.account.Due.{Due}
 use Rattle.m2v_audit.specs.declared.places.Misplaced.{Misplaced}
 use Rattle.m2v_audit.specs.declared.records.SequenceRecord.{SequenceRecord}
@@ -33,10 +44,10 @@ use Rattle.m2v_audit.specs.declared.report.SequenceTotals.{SequenceTotals}
 use Rattle.m2v_audit.specs.declared.tally.RuleCount.{RuleCount}
 use Rattle.m2v_audit.specs.declared.tally.Tally.{Tally}
 use Rattle.m2v_audit.specs.Account.{Told}
-use Rattle.m2v_audit.specs.Auditing.{bit_of, with_sequence_remarks, with_group_by, with_rules, with_picture_remarks, with_all_remarks}
+use Rattle.m2v_audit.specs.Auditing.{bit_of, with_shown, with_end_remarks, with_sequence_remarks, with_group_by, with_rules, with_picture_remarks, with_all_remarks}
 use Rattle.m2v_audit.specs.Findings.{broken_at, remarked_at, misplaced_at, with_breaches, with_remarks, with_misplaced, with_removals}
 use Rattle.m2v_audit.specs.Lines.{skipped_line, sequence_line, group_line, picture_line, held_line, breach_line, warning_line, failure_line, count_line, end_line}
-use Rattle.m2v_audit.specs.Report.{Report, with_text, with_rule, with_warned, with_failing, with_due, finding_of, with_breach, with_warning, with_finding, held_of, under_of, over_of, with_failure, with_held, with_under, with_over, with_removal, with_begin, with_group_line, with_picture_line, count_of, with_count, with_counts, end_of, with_end}
+use Rattle.m2v_audit.specs.Report.{Report, with_text, with_rule, with_warned, with_failing, with_due, finding_of, with_breach, with_warning, with_finding, held_of, under_of, over_of, with_failure, with_held, with_under, with_over, is_far, far_at, with_far, with_removal, with_begin, with_group_line, with_picture_line, count_of, with_count, with_counts, end_of, with_end}
 use Rattle.m2v_audit.specs.Times.{fields_of}
 use Rattle.m2v_law_audit.specs.Moved.{Record, of_skipped, of_sequence, of_group, of_picture, of_held, of_breach, of_warning, of_failure, of_count, of_end, record_text, moved}
 
@@ -156,7 +167,7 @@ remarks_come {n} {k} r s picture bit (m ∷ ms) h =
     (finding_chosen (is_warning m.rule) (remarked_at picture bit m) h)
 
 -- the same remarks at a bit that is so many bytes further on
-remarks_at : {n k : ℕ} {r s : Report} (picture bit other : ℕ) (ms same : Remarks) → other ≡ bit + 8 * k → same ≡ ms → Together n k r s
+pub remarks_at : {n k : ℕ} {r s : Report} (picture bit other : ℕ) (ms same : Remarks) → other ≡ bit + 8 * k → same ≡ ms → Together n k r s
     → Together n k (with_remarks r picture bit ms) (with_remarks s picture other same)
 remarks_at {n} {k} {r} {s} picture bit other ms same e f h =
     subst (λ (b : ℕ). Together n k (with_remarks r picture bit ms) (with_remarks s picture b same)) (sym e)
@@ -164,25 +175,56 @@ remarks_at {n} {k} {r} {s} picture bit other ms same e f h =
     (remarks_come r s picture bit ms h))
 
 -- of a sequence header, beside the first one of its sequence
-pub sequence_remarks_come : {n k : ℕ} {r s : Report} (rules : RuleSet) (picture bit : ℕ) (first x : Sequence) → Together n k r s
-    → Together n k (with_sequence_remarks r rules picture bit first x) (with_sequence_remarks s rules picture (bit + 8 * k) first x)
-sequence_remarks_come {n} {k} rules picture bit first x h =
+pub sequence_remarks_come : {n k : ℕ} {r s : Report} (rules : RuleSet) (like : Option Sequence) (before : Leading) (picture bit : ℕ) (first x : Sequence) → Together n k r s
+    → Together n k (with_sequence_remarks r rules like before picture bit first x) (with_sequence_remarks s rules like before picture (bit + 8 * k) first x)
+sequence_remarks_come {n} {k} rules like before picture bit first x h =
     let to = bit + 8 * k in
-    remarks_at picture bit to (set_remarks rules x) (set_remarks rules x) refl refl
+    remarks_at picture bit to (set_remarks rules like x) (set_remarks rules like x) refl refl
     (remarks_at picture bit to (sequence_warnings rules x) (sequence_warnings rules x) refl refl
+    (remarks_at picture bit to (sequence_order_rule before) (sequence_order_rule before) refl refl
     (remarks_at picture bit to (extension_rule first x) (extension_rule first x) refl refl
     (remarks_at picture bit to (header_rule first x) (header_rule first x) refl refl
-    (remarks_at picture bit to (level_remarks x) (level_remarks x) refl refl h))))
+    (remarks_at picture bit to (level_remarks x) (level_remarks x) refl refl h)))))
 
 -- of a group header, in a sequence with this header, where one came
-pub group_remarks_come : {n k : ℕ} {r s : Report} (rules : RuleSet) (headed : Bool) (picture bit : ℕ) (x : Option Sequence) (g : GroupInfo)
+pub group_remarks_come : {n k : ℕ} {r s : Report} (rules : RuleSet) (before : Behind) (picture bit : ℕ) (x : Option Sequence) (g : GroupInfo)
     → Together n k r s
-    → Together n k (with_group_by r rules headed picture bit x g) (with_group_by s rules headed picture (bit + 8 * k) x g)
-group_remarks_come rules headed picture bit None g h = h
-group_remarks_come {n} {k} rules headed picture bit (Some x) g h =
-    let to = bit + 8 * k in
-    remarks_at picture bit to (set_group_remarks rules headed) (set_group_remarks rules headed) refl refl
-    (remarks_at picture bit to (group_remarks x.info.frame_rate_code g) (group_remarks x.info.frame_rate_code g) refl refl h)
+    → Together n k (with_group_by r rules before picture bit x g) (with_group_by s rules before picture (bit + 8 * k) x g)
+group_remarks_come rules before picture bit None g h = h
+group_remarks_come {n} {k} rules before picture bit (Some x) g h =
+    let code = x.info.frame_rate_code in
+    remarks_come _ _ picture bit (set_group_remarks rules before.headers.sequence)
+    (remarks_come _ _ picture bit (broken_link_warning g)
+    (remarks_come _ _ picture bit (time_warnings code before.group before.fields g)
+    (remarks_come _ _ picture bit (group_remarks code g) (remarks_come _ _ picture bit (group_order_rule before.headers) h))))
+
+-- a frame as it is shown, so many bytes further on
+abbrev pub shown_on : ℕ → ShownFrame → ShownFrame
+shown_on k f = record f { bit = f.bit + 8 * k }
+
+same_parity : (k : ℕ) (last : Option Bool) (f : ShownFrame) → parity_warning last (shown_on k f) ≡ parity_warning last f
+unfolding parity_warning
+same_parity k None f = refl
+same_parity k (Some t) f = refl
+
+-- of the frame that is shown, where one is
+pub shown_come : {n k : ℕ} {r s : Report} (last : Option Bool) (f : Option ShownFrame) → Together n k r s
+    → Together n k (with_shown r last f) (with_shown s last (option_map (shown_on k) f))
+shown_come last None h = h
+shown_come {n} {k} last (Some f) h =
+    remarks_at f.picture f.bit (f.bit + 8 * k) (parity_warning last f) (parity_warning last (shown_on k f)) refl (same_parity k last f) h
+
+-- how a piece ends, so many bytes further on
+abbrev pub end_on : ℕ → PieceEnd → PieceEnd
+end_on k e = record e { bit = e.bit + 8 * k }
+
+-- of the end of a sequence
+pub last_remarks_come : {n k : ℕ} {r s : Report} (before : Leading) (picture : ℕ) (end : Option PieceEnd) → Together n k r s
+    → Together n k (with_end_remarks r before picture end) (with_end_remarks s before picture (option_map (end_on k) end))
+last_remarks_come before picture None h = h
+last_remarks_come {n} {k} before picture (Some e) h =
+    let ms : Remarks = end_remarks before e.closed in
+    remarks_at picture e.bit (e.bit + 8 * k) ms ms refl refl h
 
 -- ---- frames that stand at another place than they say
 
@@ -217,6 +259,11 @@ failure_chosen {n} {k} {r} {s} true f g h e =
     counted_line (of_failure f) (failure_line g) (with_failing r.tally) (with_failing s.tally) h e (ap (λ (t : Tally). with_failing t) h.tally)
 failure_chosen false f g h e = h
 
+warning_chosen : {n k : ℕ} {r s : Report} (b : Bool) (x : Broken) → Together n k r s
+    → Together n k (if b then with_warning r x else r) (if b then with_warning s (broken_on k x) else s)
+warning_chosen true x h = warning_comes x h
+warning_chosen false x h = h
+
 module _ (k : ℕ) (rate : Rate) (d : Due) (t : Removed) where
   held_comes : {n : ℕ} {r s : Report} → Together n k r s → Together n k (with_held r rate d t) (with_held s rate (due_on k d) t)
   held_comes {n} {r} {s} h =
@@ -233,8 +280,11 @@ module _ (k : ℕ) (rate : Rate) (d : Due) (t : Removed) where
       failure_chosen t.is_over (over_of r.sequence rate d t) (over_of s.sequence rate (due_on k d) t) h
       (ap (λ (q : ℕ). failure_line (over_of q rate (due_on k d) t)) h.sequence)
 
+  far_comes : {n : ℕ} {r s : Report} → Together n k r s → Together n k (with_far r rate d t) (with_far s rate (due_on k d) t)
+  far_comes h = warning_chosen (is_far rate.constant d t) (far_at d t) h
+
   removal_comes : {n : ℕ} {r s : Report} → Together n k r s → Together n k (with_removal r rate d t) (with_removal s rate (due_on k d) t)
-  removal_comes h = both_count (λ (x : Tally). with_due x rate.constant d t) (over_comes (under_comes (held_comes h)))
+  removal_comes h = both_count (λ (x : Tally). with_due x rate.constant d t) (far_comes (over_comes (under_comes (held_comes h))))
 
 removals_come : {n k : ℕ} (r s : Report) (rate : Rate) (ts : List Told) → Together n k r s → Together n k (with_removals r rate ts) (with_removals s rate (map (told_on k) ts))
 unfolding with_removals
@@ -325,6 +375,10 @@ module _ (k : ℕ) (constant : Bool) (p : CodedPicture) where
   unfolding low_delay_rule
   same_delays = refl
 
+  same_type : (headed : Bool) → first_type_rule headed (coded_on k p) ≡ first_type_rule headed p
+  unfolding first_type_rule
+  same_type headed = refl
+
   same_codes : f_code_rule (coded_on k p) ≡ f_code_rule p
   unfolding f_code_rule
   same_codes = refl
@@ -341,10 +395,30 @@ module _ (k : ℕ) (constant : Bool) (p : CodedPicture) where
   unfolding dropped_warning b_repeat_warning
   same_warnings = refl
 
-picture_remarks_come : {n k : ℕ} {r s : Report} (constant : Bool) (p : CodedPicture)
+-- what comes before a picture, so many bytes further on
+abbrev pub arrival_on : ℕ → Arrival → Arrival
+arrival_on k d = record d { code_end = d.code_end + 8 * k }
+
+abbrev pub preceding_on : ℕ → Preceding → Preceding
+preceding_on k before = record before { picture = option_map (arrival_on k) before.picture }
+
+far_apart : (k a b : ℕ) → (a + 8 * k) - (b + 8 * k) ≡ a - b
+far_apart k a b = omega arith
+
+same_arrival : (k : ℕ) (p : CodedPicture) (rate : ℕ) (before : Option Arrival)
+    → arrival_rule rate (option_map (arrival_on k) before) (coded_on k p) ≡ arrival_rule rate before p
+unfolding arrival_rule
+same_arrival k p rate None = refl
+same_arrival k p rate (Some d) =
+    let need = rate * time_between d p in
+    ap (λ (bits : ℕ). looked_at (not (nat_eq d.delay 65535) && not (nat_eq p.note.info.vbv_delay 65535))
+    (judge (nat_lt (1800 * bits) need) (remark 29 elements.ArrivalRate (1800 * bits) need)))
+    (far_apart k p.note.code_end d.code_end)
+
+picture_remarks_come : {n k : ℕ} {r s : Report} (before : Preceding) (constant : Bool) (p : CodedPicture)
     → bit_of (note_on k p.note) ≡ bit_of p.note + 8 * k → Together n k r s
-    → Together n k (with_picture_remarks r constant p) (with_picture_remarks s constant (coded_on k p))
-picture_remarks_come {n} {k} constant p e h =
+    → Together n k (with_picture_remarks r before constant p) (with_picture_remarks s (preceding_on k before) constant (coded_on k p))
+picture_remarks_come {n} {k} before constant p e h =
     let bit = bit_of p.note in
     let to = bit_of (note_on k p.note) in
     remarks_at p.number bit to (picture_warnings p) (picture_warnings (coded_on k p)) e (same_warnings k constant p)
@@ -352,7 +426,9 @@ picture_remarks_come {n} {k} constant p e h =
     (remarks_at p.number bit to (field_rule constant p) (field_rule constant (coded_on k p)) e (same_fields k constant p)
     (remarks_at p.number bit to (full_pel_rule p.note.info) (full_pel_rule p.note.info) e refl
     (remarks_at p.number bit to (f_code_rule p) (f_code_rule (coded_on k p)) e (same_codes k constant p)
-    (remarks_at p.number bit to (delay_remarks constant p) (delay_remarks constant (coded_on k p)) e (same_delays k constant p) h)))))
+    (remarks_at p.number bit to (arrival_rule before.rate before.picture p) _ e (same_arrival k p before.rate before.picture)
+    (remarks_at p.number bit to (delay_remarks constant p) (delay_remarks constant (coded_on k p)) e (same_delays k constant p)
+    (remarks_at p.number bit to (first_type_rule before.headed p) (first_type_rule before.headed (coded_on k p)) e (same_type k constant p before.headed) h)))))))
 
 -- what a set of rules remarks of it, behind the same pictures
 set_same : (k : ℕ) (rules : RuleSet) (before : Runs) (p : CodedPicture) (fields : ℕ)
@@ -363,15 +439,15 @@ set_same k sets.Dvd before p fields = refl
 set_same k sets.Dvb before p fields = refl
 set_same k sets.Atsc before p fields = refl
 
-pub all_remarks_come : {n k : ℕ} {r s : Report} (rules : RuleSet) (constant : Bool) (before : Runs) (p : CodedPicture)
+pub all_remarks_come : {n k : ℕ} {r s : Report} (rules : RuleSet) (before : Preceding) (constant : Bool) (runs : Runs) (p : CodedPicture)
     → bit_of (note_on k p.note) ≡ bit_of p.note + 8 * k → Together n k r s
-    → Together n k (with_all_remarks r rules constant before p) (with_all_remarks s rules constant before (coded_on k p))
-all_remarks_come {n} {k} rules constant before p e h =
+    → Together n k (with_all_remarks r rules before constant runs p) (with_all_remarks s rules (preceding_on k before) constant runs (coded_on k p))
+all_remarks_come {n} {k} rules before constant runs p e h =
     let fields = fields_of p.sequence p.note in
-    let ms = set_picture_remarks rules before p fields in
-    let same = set_picture_remarks rules before (coded_on k p) fields in
-    remarks_at p.number (bit_of p.note) (bit_of (note_on k p.note)) ms same e (set_same k rules before p fields)
-    (picture_remarks_come constant p e h)
+    let ms = set_picture_remarks rules runs p fields in
+    let same = set_picture_remarks rules runs (coded_on k p) fields in
+    remarks_at p.number (bit_of p.note) (bit_of (note_on k p.note)) ms same e (set_same k rules runs p fields)
+    (picture_remarks_come before constant p e h)
 
 -- what the pictures come to, with this one
 pub same_runs : (k : ℕ) (before : Runs) (p : CodedPicture) (fields : ℕ) → runs_with before (coded_on k p) fields ≡ runs_with before p fields

@@ -1,6 +1,6 @@
 -- Two runs of one sequence, of which one stands further on: what each step does to both.
 use Rattle.std.proofs.Common.{◌≡◌, ℕ, ◌+◌, ◌-◌, ◌*◌, Bool, true, false, List, [], ◌∷◌, ◌++◌, length, Result, Ok, Err, Option, Some, None, refl, sym, ap, subst, ◌∙◌, arith}
-use Rattle.std.specs.Prelude.{nat_eq, map, slice_get, if◌then◌else◌}
+use Rattle.std.specs.Prelude.{nat_eq, ◌||◌, map, slice_get, if◌then◌else◌}
 use Rattle.std.specs.Option.{option_map}
 use Rattle.std.proofs.lemmas.List.{map-append}
 use Rattle.m2v_model.specs.m2v_macroblock.m2v_head.declared.sequence.SequenceInfo.{SequenceInfo}
@@ -19,6 +19,9 @@ use Rattle.m2v_audit.specs.m2v_check.declared.coded.CodedPicture.{CodedPicture}
 use Rattle.m2v_audit.specs.m2v_check.Running.{ends_frame}
 use Rattle.m2v_audit.specs.m2v_strict.declared.runs.Runs.{Runs}
 use Rattle.m2v_audit.specs.declared.account.Due.{Due}
+use Rattle.m2v_audit.specs.m2v_strict.ParityRules.{has_parity, shown_with, last_with, parity_with}
+use Rattle.m2v_audit.specs.m2v_strict.declared.parity.Parity.{Parity}
+use Rattle.m2v_audit.specs.m2v_strict.declared.parity.ShownFrame.{ShownFrame}
 use Rattle.m2v_audit.specs.declared.auditing.Auditing.{Auditing}
 use Rattle.m2v_audit.specs.declared.headers.PieceHeader.{PieceHeader}
 use Rattle.m2v_audit.specs.declared.headers.PieceHeader.TheVariants as headers
@@ -26,7 +29,7 @@ use Rattle.m2v_audit.specs.declared.places.Places.{Places}
 use Rattle.m2v_audit.specs.declared.places.Waiting.{Waiting}
 use Rattle.m2v_audit.specs.declared.words.RateKind.{RateKind}
 use Rattle.m2v_audit.specs.Account.{Account, settled}
-use Rattle.m2v_audit.specs.Auditing.{sequence_of, longer, sequence_record, with_first, begun_by, begun, with_sequence, group_record, with_group, with_header, sequences_of, with_headers, bit_of, coded, counted, picture_record, with_told, waiting_of, with_place, due_of, account_by, with_account, with_coded, with_note, settled_by, pictured, with_settled}
+use Rattle.m2v_audit.specs.Auditing.{sequence_of, leading, behind, ends_code, with_ending, frame_at, with_shown, with_parity, longer, sequence_record, with_first, begun_by, begun, with_sequence, group_record, with_group, with_header, sequences_of, with_headers, bit_of, coded, preceding, counted, picture_record, with_told, waiting_of, with_place, due_of, account_by, with_account, with_coded, with_note, settled_by, pictured, with_settled}
 use Rattle.m2v_audit.specs.Findings.{with_misplaced, with_removals}
 use Rattle.m2v_audit.specs.Front.{group_told, group_at, header_at, headers_from, front_of}
 use Rattle.m2v_audit.specs.Lines.{sequence_line, group_line, picture_line}
@@ -34,8 +37,12 @@ use Rattle.m2v_audit.specs.Opening.{kind_of}
 use Rattle.m2v_audit.specs.Places.{with_frame, told_with_frame, told_at_close}
 use Rattle.m2v_audit.specs.Report.{Report}
 use Rattle.m2v_audit.specs.Times.{fields_of}
-use Rattle.m2v_law_audit.proofs.MovedReports.{Together, breaches_at, misplaced_told, sequence_remarks_come, group_remarks_come, removals_told, begin_comes, group_comes, picture_comes, rules_come, all_remarks_come, same_runs, note_on, coded_on, due_on}
+use Rattle.m2v_law_audit.proofs.MovedReports.{Together, breaches_at, misplaced_told, sequence_remarks_come, group_remarks_come, removals_told, begin_comes, group_comes, picture_comes, rules_come, end_on, arrival_on, shown_on, shown_come, all_remarks_come, same_runs, note_on, coded_on, due_on}
 use Rattle.m2v_law_audit.proofs.MovedKept.{waiting_on, places_on, frame_told, frame_kept, close_told, account_on, settled_same, after_same, more_same, account_same}
+
+-- the parity of fields, so many bytes further on
+abbrev pub parity_on : ℕ → Parity → Parity
+parity_on k o = record o { anchor = option_map (shown_on k) o.anchor }
 
 -- what is kept of a sequence so many bytes further on, beside another report
 abbrev pub beside : ℕ → Report → Auditing → Auditing
@@ -44,6 +51,9 @@ beside k r a = record a {
   start = a.start + k;
   places = places_on k a.places;
   account = option_map (account_on k) a.account;
+  parity = parity_on k a.parity;
+  last = option_map (end_on k) a.last;
+  arrival = option_map (arrival_on k) a.arrival;
 }
 
 -- one state is the other so many sequences and so many bytes further on
@@ -67,7 +77,7 @@ longer_both {n} {k} {a} bytes h = step_both (longer bytes a) (longer bytes) h (�
 
 -- ---- the beginning
 
-further : (k place : ℕ) → 8 * (place + k) ≡ 8 * place + 8 * k
+pub further : (k place : ℕ) → 8 * (place + k) ≡ 8 * place + 8 * k
 further k place = omega arith
 
 as_far : (k place start : ℕ) → place + k - (start + k) ≡ place - start
@@ -117,7 +127,7 @@ header_on k (headers.Group bit g) = headers.Group (bit + 8 * k) g
 group_both : {n k : ℕ} {a b : Auditing} (bit : ℕ) (g : GroupInfo) → Moves n k a b → Moves n k (with_group a bit g) (with_group b (bit + 8 * k) g)
 group_both {n} {k} {a} bit g h = step_both (with_group a bit g) (λ x. with_group x (bit + 8 * k) g) h (λ r t. record {
   report =
-      group_remarks_come a.rules a.headed a.pictures bit a.sequence g
+      group_remarks_come a.rules (behind a) a.pictures bit a.sequence g
       (group_comes (group_record a.report.sequence a.groups bit a.pictures g) (group_record r.sequence a.groups (bit + 8 * k) a.pictures g)
       (ap (λ (q : ℕ). group_line (group_record q a.groups (bit + 8 * k) a.pictures g)) t.sequence)
       (misplaced_told (told_at_close a.places) (told_at_close (places_on k a.places)) (close_told k a.places) t));
@@ -130,7 +140,7 @@ header_both (headers.Sequence bit) None m = m
 header_both {n} {k} {a} (headers.Sequence bit) (Some s) m = step_both (with_sequence a bit (sequence_of s)) (λ x. with_sequence x (bit + 8 * k) (sequence_of s)) m
     (λ r t. record {
       report =
-          sequence_remarks_come a.rules a.pictures bit (first_or a.first (sequence_of s)) (sequence_of s)
+          sequence_remarks_come a.rules a.like (leading a) a.pictures bit (first_or a.first (sequence_of s)) (sequence_of s)
           (breaches_at a.pictures bit (bit + 8 * k) (sequence_breaches (sequence_of s ∷ [])) refl t);
       rest = refl;
     })
@@ -166,7 +176,7 @@ module _ (k : ℕ) where
       lists_chosen (nat_eq (value_of u) 0xB3) _ _ (headers.Sequence bit ∷ []) _ refl
       (lists_chosen (nat_eq (value_of u) 0xB8) _ _ (group_told bit ((whole_header group_in).read (body u))) [] (group_further bit ((whole_header group_in).read (body u))) refl)
 
-  next_bit : (bit bytes : ℕ) → bit + 8 * k + 8 * bytes ≡ bit + 8 * bytes + 8 * k
+  pub next_bit : (bit bytes : ℕ) → bit + 8 * k + 8 * bytes ≡ bit + 8 * bytes + 8 * k
   next_bit bit bytes = omega arith
 
   headers_further : (bit : ℕ) (us : Units) → headers_from (bit + 8 * k) us ≡ map (header_on k) (headers_from bit us)
@@ -208,14 +218,14 @@ told_both : {n k : ℕ} {a b : Auditing} (p : CodedPicture) (bytes zeros : ℕ) 
     → Moves n k (with_told a p bytes zeros) (with_told b (coded_on k p) bytes zeros)
 told_both {n} {k} {a} p bytes zeros e m = step_both (with_told a p bytes zeros) (λ x. with_told x (coded_on k p) bytes zeros) m (λ r t. record {
   report =
-      all_remarks_come a.rules a.constant a.runs p e
+      all_remarks_come a.rules (preceding a p.sequence) a.constant a.runs p e
       (rules_come a.constant p e
       (picture_comes (picture_record a.report.sequence p bytes zeros) (picture_record r.sequence (coded_on k p) bytes zeros)
       (ap (λ (q : ℕ). line_at q (bit_of (note_on k p.note)) p bytes zeros) t.sequence
       ∙ ap (λ (bit : ℕ). line_at (a.report.sequence + n) bit p bytes zeros) e)
       t));
   rest =
-      ap (λ (x : Runs). record (beside k (with_told (beside k r a) (coded_on k p) bytes zeros).report a) { runs = x })
+      ap (λ (x : Runs). record (beside k (with_told (beside k r a) (coded_on k p) bytes zeros).report a) { headed = false; runs = x })
       (same_runs k a.runs p (fields_of p.sequence p.note));
 })
 
@@ -239,6 +249,58 @@ place_both {n} {k} {a} p e m = step_both (with_place a p) (λ x. with_place x (c
     })
     (record { report = t; rest = ap (λ (x : Waiting). record (beside k r a) { places = record (places_on k a.places) { begun = Some x } }) w }))
 
+-- the frame that is shown by it
+frame_further : (k : ℕ) (p : CodedPicture) → IsFurther k p.note → frame_at (coded_on k p) ≡ shown_on k (frame_at p)
+frame_further k p e = ap (λ (bit : ℕ). record (frame_at p) { bit = bit }) e
+
+option_chosen : (k : ℕ) (b : Bool) (x y u v : Option ShownFrame) → x ≡ option_map (shown_on k) u → y ≡ option_map (shown_on k) v
+    → (if b then x else y) ≡ option_map (shown_on k) (if b then u else v)
+option_chosen k true x y u v e f = e
+option_chosen k false x y u v e f = f
+
+shown_same : (k : ℕ) (o : Parity) (f : ShownFrame) (b : Bool) → shown_with (parity_on k o) (shown_on k f) b ≡ option_map (shown_on k) (shown_with o f b)
+shown_same k o f b = option_chosen k (o.low_delay || b) _ _ (Some f) o.anchor refl refl
+
+last_same : (k : ℕ) (last : Option Bool) (f : Option ShownFrame) → last_with last (option_map (shown_on k) f) ≡ last_with last f
+last_same k last None = refl
+last_same k last (Some f) = refl
+
+parity_same : (k : ℕ) (o : Parity) (f : ShownFrame) (b : Bool) → parity_with (parity_on k o) (shown_on k f) b ≡ parity_on k (parity_with o f b)
+parity_same k o f b =
+    let shown = shown_with o f b in
+    ap (λ (s : Option ShownFrame). record (parity_with (parity_on k o) (shown_on k f) b) { last = last_with o.last s }) (shown_same k o f b)
+    ∙ ap (λ (l : Option Bool). record (parity_with (parity_on k o) (shown_on k f) b) { last = l }) (last_same k o.last shown)
+    ∙ ap (λ (s : Option ShownFrame). record { low_delay = o.low_delay; last = last_with o.last shown; anchor = s })
+    (option_chosen k (o.low_delay || b) _ _ o.anchor (Some f) refl refl)
+
+fields_come : {n k : ℕ} {r s : Report} (c : Bool) (o : Parity) (f : ShownFrame) (b : Bool) → Together n k r s
+    → Together n k (if c then with_shown r o.last (shown_with o f b) else r)
+    (if c then with_shown s o.last (shown_with (parity_on k o) (shown_on k f) b) else s)
+fields_come {n} {k} {r} {s} true o f b t =
+    subst (λ (x : Option ShownFrame). Together n k (with_shown r o.last (shown_with o f b)) (with_shown s o.last x)) (sym (shown_same k o f b))
+    (shown_come o.last (shown_with o f b) t)
+fields_come false o f b t = t
+
+parity_chosen : (k : ℕ) (c : Bool) (x u o : Parity) → x ≡ parity_on k u → (if c then x else parity_on k o) ≡ parity_on k (if c then u else o)
+parity_chosen k true x u o e = e
+parity_chosen k false x u o e = refl
+
+parity_both : {n k : ℕ} {a b : Auditing} (p : CodedPicture) → IsFurther k p.note → Moves n k a b → Moves n k (with_parity a p) (with_parity b (coded_on k p))
+parity_both {n} {k} {a} p e m = step_both (with_parity a p) (λ x. with_parity x (coded_on k p)) m (λ r t.
+    let is = is_b p.note.info.kind in
+    let frame = frame_at p in
+    let there = frame_further k p e in
+    let told : Report = if has_parity p then with_shown r a.parity.last (shown_with (parity_on k a.parity) (frame_at (coded_on k p)) is) else r in
+    record {
+      report =
+          subst (λ (f : ShownFrame). Together n k (with_parity a p).report (if has_parity p then with_shown r a.parity.last (shown_with (parity_on k a.parity) f is) else r))
+          (sym there) (fields_come (has_parity p) a.parity frame is t);
+      rest =
+          ap (λ (o : Parity). record (beside k told a) { parity = o })
+          (ap (λ (f : ShownFrame). if has_parity p then parity_with (parity_on k a.parity) f is else parity_on k a.parity) there
+          ∙ parity_chosen k (has_parity p) _ (parity_with a.parity frame is) a.parity (parity_same k a.parity frame is));
+    })
+
 -- as the buffer sees it
 abbrev due_with : Due → ℕ → ℕ → Due
 due_with d bit code_bits = record d { bit = bit; code_bits = code_bits }
@@ -261,7 +323,7 @@ account_both {n} {k} {a} p place bytes e m = step_both (with_account a p place b
 })
 
 coded_both : {n k : ℕ} {a b : Auditing} (p : CodedPicture) (place bytes zeros : ℕ) → IsFurther k p.note → Moves n k a b → Moves n k (with_coded a p place bytes zeros) (with_coded b (coded_on k p) (place + k) bytes zeros)
-coded_both p place bytes zeros e m = account_both p place bytes e (place_both p e (told_both p bytes zeros e (counted_both p m)))
+coded_both p place bytes zeros e m = account_both p place bytes e (parity_both p e (place_both p e (told_both p bytes zeros e (counted_both p m))))
 
 -- of a piece's picture, where it has one
 abbrev pub AreFurther : ℕ → Option PictureNote → Type 0
@@ -281,6 +343,18 @@ note_both {n} {k} a r (Some s) (Some p) place bytes ending e t =
 pub pictured_both : {n k : ℕ} {a b : Auditing} (p : Option PictureNote) (place bytes zeros : ℕ) → AreFurther k p → Moves n k a b → Moves n k (pictured a place bytes zeros p) (pictured b (place + k) bytes zeros (option_map (note_on k) p))
 pictured_both {n} {k} {a} p place bytes zeros e m = step_both (pictured a place bytes zeros p) (λ x. pictured x (place + k) bytes zeros (option_map (note_on k) p)) m
     (λ r t. note_both a r a.sequence p place bytes zeros e t)
+
+-- ---- the end of a piece
+
+end_further : (k place bytes : ℕ) → 8 * (place + k + bytes) ≡ 8 * (place + bytes) + 8 * k
+end_further k place bytes = omega arith
+
+pub ending_both : {n k : ℕ} {a b : Auditing} (place : ℕ) (piece : List ℕ) → Moves n k a b
+    → Moves n k (with_ending place piece a) (with_ending (place + k) piece b)
+ending_both {n} {k} {a} place piece m = step_both (with_ending place piece a) (with_ending (place + k) piece) m (λ r t. record {
+  report = t;
+  rest = ap (λ (bit : ℕ). record (beside k r a) { last = Some (record { bit = bit; closed = ends_code piece }) }) (end_further k place (length piece));
+})
 
 -- ---- removals
 

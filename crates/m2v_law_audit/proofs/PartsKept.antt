@@ -1,5 +1,5 @@
 -- What stays of a sequence behind a piece; and that nothing waits to be told where none began.
-use Rattle.std.proofs.Common.{◌≡◌, ℕ, ◌+◌, ◌*◌, List, [], ◌∷◌, ◌++◌, length, Option, Some, None, inl, inr, refl, sym, ap, ◌∙◌}
+use Rattle.std.proofs.Common.{◌≡◌, ℕ, ◌+◌, ◌*◌, List, [], ◌∷◌, length, Option, Some, None, inl, inr, refl, sym, ap, ◌∙◌}
 use Rattle.std.specs.Prelude.{slice_get}
 use Rattle.std.specs.Option.{option_map}
 use Rattle.std.proofs.lemmas.Bool.{cases_Bool}
@@ -14,15 +14,13 @@ use Rattle.m2v_audit.specs.m2v_check.Running.{ends_frame}
 use Rattle.m2v_audit.specs.declared.auditing.Auditing.{Auditing}
 use Rattle.m2v_audit.specs.declared.headers.PieceHeader.{PieceHeader}
 use Rattle.m2v_audit.specs.declared.headers.PieceHeader.TheVariants as headers
-use Rattle.m2v_audit.specs.declared.places.WaitingFrame.{WaitingFrame}
-use Rattle.m2v_audit.specs.declared.places.Waiting.{Waiting}
 use Rattle.m2v_audit.specs.declared.report.Rate.{Rate}
 use Rattle.m2v_audit.specs.Account.{Account, with_more as account_more}
-use Rattle.m2v_audit.specs.Auditing.{sequence_of, rate_with, longer, begun, begun_by, with_header, sequences_of, with_headers, coded, counted, with_told, with_place, with_note, settled_by, fronted, pictured, after_piece, cleared}
+use Rattle.m2v_audit.specs.Auditing.{sequence_of, rate_with, longer, begun, begun_by, with_header, sequences_of, with_headers, coded, counted, with_told, with_place, with_note, settled_by, with_others, fronted, pictured, with_ending, after_piece, cleared}
 use Rattle.m2v_audit.specs.Front.{front_of}
+use Rattle.m2v_audit.specs.Others.{others_of}
 use Rattle.m2v_audit.specs.Times.{Times}
-use Rattle.m2v_audit.specs.Places.{anchor_misplaced, field_misplaced, waiting_in}
-use Rattle.m2v_law_audit.specs.Found.{found_misplaced, end_found, settled_in, left_in, piece_removals}
+use Rattle.m2v_law_audit.specs.Found.{settled_in, left_in, piece_removals}
 
 -- ---- what headers don't touch
 
@@ -72,7 +70,7 @@ kept_after a place piece notes =
     let b : Auditing = longer (length piece) a in
     let c : Auditing = fronted b place piece notes in
     let d : Auditing = pictured c place (length piece) (zeros_last piece) notes.picture in
-    settling d d.account
+    settling (with_ending place piece (with_others c.pictures (others_of place piece) d)) d.account
     ∙ noting c c.sequence notes.picture place (length piece) (zeros_last piece)
     ∙ ap (λ (x : Untouched). (x.0, x.1)) (all_headers (begun a.first b place notes) notes.sequences 0 (front_of place piece))
 
@@ -142,15 +140,19 @@ module _ (a : Auditing) (place : ℕ) (piece : List ℕ) (notes : PieceNotes) wh
       let c : Auditing = fronted b place piece notes in
       let first : (begun a.first b place notes).first ≡ None = ap (λ (x : Option Sequence × Rate). x.0) (sym (kept_after a place piece notes)) ∙ none in
       let still : b.first ≡ None → IsBare b = λ e. let is = bare e in record { sequence = is.sequence; anchor = is.anchor; begun = is.begun; account = is.account } in
-      let is_c : IsBare c = bare_front a.first b place notes (front_of place piece) refl still first in
+      let headed = bare_front a.first b place notes (front_of place piece) refl still first in
+      let is_c : IsBare c = record { sequence = headed.sequence; anchor = headed.anchor; begun = headed.begun; account = headed.account } in
       bare_noted c c.sequence notes.picture place (length piece) (zeros_last piece) is_c.sequence is_c
 
   bare_after : (a.first ≡ None → IsBare a) → (after_piece a place piece notes).first ≡ None → IsBare (after_piece a place piece notes)
   unfolding after_piece
   bare_after bare none =
-      let d : Auditing = pictured (fronted (longer (length piece) a) place piece notes) place (length piece) (zeros_last piece) notes.picture in
+      let c : Auditing = fronted (longer (length piece) a) place piece notes in
+      let d : Auditing = pictured c place (length piece) (zeros_last piece) notes.picture in
+      let e : Auditing = with_others c.pictures (others_of place piece) d in
       let is : IsBare d = bare_pictured bare none in
-      bare_settled d d.account is.account is
+      let ends : IsBare (with_ending place piece e) = record { sequence = is.sequence; anchor = is.anchor; begun = is.begun; account = is.account } in
+      bare_settled (with_ending place piece e) d.account is.account ends
 
   -- and where its lines were taken away
   pub bare_behind : (a.first ≡ None → IsBare a) → (after_piece a place piece notes).first ≡ None → IsBare (cleared (after_piece a place piece notes))
@@ -160,16 +162,6 @@ module _ (a : Auditing) (place : ℕ) (piece : List ℕ) (notes : PieceNotes) wh
 
   pub none_removed : (a.first ≡ None → IsBare a) → (after_piece a place piece notes).first ≡ None → piece_removals a place piece notes ≡ []
   none_removed bare none = ap settled_in (bare_pictured bare none).account
-
-none_misplaced : (n : ℕ) (anchor : Option WaitingFrame) (begun : Option Waiting) (shown place : ℕ) → anchor ≡ None → begun ≡ None
-    → found_misplaced n (anchor_misplaced anchor shown ++ field_misplaced begun place ∷ []) ≡ []
-none_misplaced n None None shown place e f = refl
-none_misplaced n None (Some p) shown place e f = absurd cc
-none_misplaced n (Some x) begun shown place e f = absurd cc
-
--- at the end nothing is found
-pub none_found : (a : Auditing) → IsBare a → end_found a ≡ []
-none_found a is = none_misplaced a.report.sequence a.places.anchor a.places.begun a.places.shown (a.places.shown + waiting_in a.places) is.anchor is.begun
 
 pub none_left : (a : Auditing) → IsBare a → left_in a.account ≡ []
 none_left a is = ap left_in is.account

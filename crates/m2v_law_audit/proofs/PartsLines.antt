@@ -105,6 +105,17 @@ element_within elements.SequenceHeader = refl
 element_within elements.GroupFields = refl
 element_within elements.BFrames = refl
 element_within elements.FirstGroup = refl
+element_within elements.TimeCode = refl
+element_within elements.ArrivalRate = refl
+element_within elements.FieldParity = refl
+element_within elements.HeaderOrder = refl
+element_within elements.PictureCodingType = refl
+element_within elements.SequenceEndCode = refl
+element_within elements.ChromaIntraQuantiserMatrix = refl
+element_within elements.LoadChromaIntraQuantiserMatrix = refl
+element_within elements.LoadChromaNonIntraQuantiserMatrix = refl
+element_within elements.ExtraBitPicture = refl
+element_within elements.SequenceDisplayExtension = refl
 
 named_within : (rule : ℕ) (e : Option Element) → within (name_with rule e) ≡ true
 unfolding name_with

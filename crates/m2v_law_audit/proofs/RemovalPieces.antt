@@ -11,8 +11,9 @@ use Rattle.m2v_audit.specs.m2v_check.declared.coded.CodedPicture.{CodedPicture}
 use Rattle.m2v_audit.specs.declared.account.Due.{Due}
 use Rattle.m2v_audit.specs.declared.auditing.Auditing.{Auditing}
 use Rattle.m2v_audit.specs.Account.{Account, with_more, after_settled}
-use Rattle.m2v_audit.specs.Auditing.{longer, with_headers, coded, counted, with_told, with_place, account_by, with_coded, with_note, pictured, settled_by, with_settled, cleared, fronted, after_piece}
+use Rattle.m2v_audit.specs.Auditing.{longer, with_headers, coded, counted, with_told, with_place, account_by, with_coded, with_note, with_others, pictured, with_ending, settled_by, with_settled, cleared, fronted, after_piece}
 use Rattle.m2v_audit.specs.Front.{front_of}
+use Rattle.m2v_audit.specs.Others.{others_of}
 use Rattle.m2v_audit.specs.Times.{Times, time_of, after}
 use Rattle.m2v_audit.proofs.m2v_check.Telling.{last_in}
 use Rattle.m2v_law_audit.specs.Found.{settled_in, piece_removals}
@@ -87,6 +88,11 @@ settled_stands : (a : Auditing) (y : Option Account) (f o : Option Sequence) (k 
 settled_stands a None f o k t x e h = record { first_is = h.first_is; last_is = h.last_is; number_is = h.number_is; times_are = h.times_are; account_is = e }
 settled_stands a (Some z) f o k t x e h = record { first_is = h.first_is; last_is = h.last_is; number_is = h.number_is; times_are = h.times_are; account_is = refl }
 
+ending_stands : (place : ℕ) (piece : List ℕ) (a : Auditing) (f o : Option Sequence) (k : ℕ) (t : Times) (x : Option Account)
+    → Stands a f o k t x → Stands (with_ending place piece a) f o k t x
+ending_stands place piece a f o k t x h =
+    record { first_is = h.first_is; last_is = h.last_is; number_is = h.number_is; times_are = h.times_are; account_is = h.account_is }
+
 -- ---- a piece
 
 -- what a piece tells of removals, and what stands behind it, where the account came to this
@@ -98,10 +104,15 @@ moved : (a : Auditing) (place : ℕ) (piece : List ℕ) (notes : PieceNotes) (f 
     → Stands (pictured (fronted (longer (length piece) a) place piece notes) place (length piece) (zeros_last piece) notes.picture) f o k t x → Moves a place piece notes f o k t x
 unfolding after_piece
 moved a place piece notes f o k t x h =
-    let d = pictured (fronted (longer (length piece) a) place piece notes) place (length piece) (zeros_last piece) notes.picture in
+    let c = fronted (longer (length piece) a) place piece notes in
+    let d = pictured c place (length piece) (zeros_last piece) notes.picture in
+    let e = with_others c.pictures (others_of place piece) d in
+    let g : Stands e f o k t x = record { first_is = h.first_is; last_is = h.last_is; number_is = h.number_is; times_are = h.times_are; account_is = h.account_is } in
     record {
       told = ap settled_in h.account_is;
-      behind = subst (λ (y : Option Account). Stands (cleared (with_settled d)) f o k t (option_map after_settled y)) h.account_is (settled_stands d d.account f o k t x refl h);
+      behind =
+          subst (λ (y : Option Account). Stands (cleared (with_settled (with_ending place piece e))) f o k t (option_map after_settled y)) h.account_is
+          (settled_stands (with_ending place piece e) d.account f o k t x refl (ending_stands place piece e f o k t x g));
     }
 
 -- the picture that is noted of a piece is the first one that it tells
@@ -110,7 +121,7 @@ unfolding notes_of
 noted_picture place piece es = refl
 
 -- the headers of a piece leave in force the last sequence header that it tells
-fronted_stands : (a : Auditing) (place : ℕ) (piece : List ℕ) (es : Events) (f o : Option Sequence) (k : ℕ) (t : Times) (x : Option Account) → Fronts (front_of place piece) es → Stands (begun_at a place piece es) f o k t x
+pub fronted_stands : (a : Auditing) (place : ℕ) (piece : List ℕ) (es : Events) (f o : Option Sequence) (k : ℕ) (t : Times) (x : Option Account) → Fronts (front_of place piece) es → Stands (begun_at a place piece es) f o k t x
     → Stands (fronted (longer (length piece) a) place piece (notes_of place piece es)) f (last_in o es) k t x
 fronted_stands a place piece es f o k t x fronts h =
     let b = begun_at a place piece es in

@@ -40,7 +40,7 @@ abbrev left_told : Auditing → List Told
 left_told a = left_in a.account
 
 -- the sequence was told already
-later_begun : (a : Auditing) (at : ℕ) (p : List ℕ) (es : Events) (f : Sequence) (o : Option Sequence) (k : ℕ) (t : Times) (x : Option Account) → Stands a (Some f) o k t x → Stands (begun_at a at p es) (Some f) o k t x
+pub later_begun : (a : Auditing) (at : ℕ) (p : List ℕ) (es : Events) (f : Sequence) (o : Option Sequence) (k : ℕ) (t : Times) (x : Option Account) → Stands a (Some f) o k t x → Stands (begun_at a at p es) (Some f) o k t x
 later_begun a at p es f o k t x h =
     let b = longer (length p) a in
     let is : begun_at a at p es ≡ b = ap (λ (z : Option Sequence). begun z b at (notes_of at p es)) h.first_is in

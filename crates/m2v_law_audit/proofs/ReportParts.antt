@@ -19,10 +19,10 @@ use Rattle.m2v_audit.specs.Report.{Report}
 use Rattle.m2v_audit.specs.declared.asked.Asked.{Asked}
 use Rattle.m2v_law_audit.specs.Sequences.{SequenceReport, at_end, behind, by_piece, reported, first_byte, sequence_report}
 use Rattle.m2v_law_audit.specs.Parts.{Tells, more_by, Adds}
-use Rattle.m2v_law_audit.specs.Found.{failures_of, piece_found, end_found, piece_removals, left_in, along, all_along, all_found, all_removals}
+use Rattle.m2v_law_audit.specs.Found.{failures_of, piece_found, end_found_by, end_found, piece_removals, left_in, along, all_along, all_found, all_removals}
 use Rattle.m2v_law_audit.proofs.PartsJoined.{IsOf, none_told, both_tell, counted_on, none_more, of_then}
 use Rattle.m2v_law_audit.proofs.PartsPieces.{piece_adds, finished_adds}
-use Rattle.m2v_law_audit.proofs.PartsKept.{beginning_of, stays_after, begun_with, IsBare, bare_behind, none_removed, none_found, none_left}
+use Rattle.m2v_law_audit.proofs.PartsKept.{beginning_of, stays_after, begun_with, IsBare, bare_behind, none_removed, none_left}
 
 -- its lines were taken away, no more was counted than 64 bits can count, and without a sequence nothing waits
 pub record IsReady (a : Auditing) : Type 0 where
@@ -50,7 +50,7 @@ told_alone {old} {new} {bs} {fs} none h =
 abbrev pub end_by : Auditing → Option Sequence → SequenceReport
 end_by a first = record { lines = (ended_by first a).report.text; kept = ended_by first a }
 
-ends_by : (a : Auditing) (first : Option Sequence) → a.first ≡ first → IsReady a → Reports a (end_by a first) (end_found a) (left_in a.account)
+ends_by : (a : Auditing) (first : Option Sequence) → a.first ≡ first → IsReady a → Reports a (end_by a first) (end_found_by first a) (left_in a.account)
 ends_by a None e ready =
     let bare = ready.bare e in
     let r = end_by a None in
@@ -60,8 +60,7 @@ ends_by a None e ready =
       failures = none_more a.report.tally.failures ready.counts.failures;
       stays = λ s f. refl;
     } in
-    subst (λ (ts : List Told). Reports a r (end_found a) ts) (sym (none_left a bare))
-    (subst (λ (bs : List Finding). Reports a r bs []) (sym (none_found a bare)) nothing_told)
+    subst (λ (ts : List Told). Reports a r [] ts) (sym (none_left a bare)) nothing_told
 ends_by a (Some first) e ready =
     let h = finished_adds a ready.counts in
     record {

@@ -13,7 +13,7 @@ use Rattle.m2v_model.proofs.FlowLaws.{read_err}
 use Rattle.m2v_model.proofs.PieceLaws.{placed, piece_is, piece_none, rest_read, rest_none, rest_more, text_rest}
 use Rattle.m2v_audit.specs.declared.auditing.Auditing.{Auditing}
 use Rattle.m2v_audit.specs.Auditing.{nothing, cleared, after_piece}
-use Rattle.m2v_audit.specs.Audited.{Audited, Telling, then_comes, counted_with, unless_passed, piece_told, end_told, pieces_told}
+use Rattle.m2v_audit.specs.Audited.{Audited, Telling, then_comes, unless_passed, piece_told, end_told, pieces_told}
 use Rattle.m2v_law_audit.specs.Sequences.{SequenceReport, behind, by_piece, reported, first_byte, PassNone, StandsIn}
 use Rattle.m2v_audit.proofs.m2v_check.Checking.{units_of_piece}
 use Rattle.m2v_audit.proofs.LeadLaws.{both_come}
@@ -54,7 +54,7 @@ end_elsewhere b end to x e =
 module _ (x : Telling) where
   -- a report, and what comes behind it, as its last piece ends at a byte
   abbrev told_with : SequenceReport → ℕ → Audited
-  told_with own end = then_comes own.lines (x.next (counted_with x.totals own.kept) end)
+  told_with own end = then_comes own.lines (x.next own.kept end)
 
   -- a text without a fault from a byte on; its pieces were read as if they began elsewhere
   abbrev Onward : ℕ → List (List ℕ) → Type 0
@@ -65,14 +65,14 @@ module _ (x : Telling) where
   unfolding pieces_told reported end_of
   end_stands at a b optional before y e pass off =
       let read : end_read b at ≡ Ok y = end_elsewhere b before at y (sym (rest_none b before) ∙ e) in
-      ap (λ (l : Option Limit). unless_passed l x.totals a (end_told x optional a at (end_read b at))) pass
+      ap (λ (l : Option Limit). unless_passed l x a (end_told x optional a at (end_read b at))) pass
       ∙ ap (λ (o : Bool). end_told x o a at (end_read b at)) (off refl)
       ∙ ap (end_told x false a at) read
 
   piece_stands : (at : ℕ) (p : List ℕ) (ps : List (List ℕ)) (a : Auditing) (b : Between) (before : ℕ) (y : Events × Between) (read : Course)
       → piece_read b (before + length p) p ≡ read → continued read (λ next. rest_read next (before + length p) ps) ≡ Ok y
       → PassNone (at + length p) ps → Onward (at + length p) ps
-      → piece_told x a at p (piece_read b (at + length p) p) (λ a' b'. pieces_told x false a' b' (at + length p) ps)
+      → piece_told x a at p ps (piece_read b (at + length p) p) (λ a' b'. pieces_told x false a' b' (at + length p) ps)
       ≡ told_with (by_piece a at p (piece_read b (at + length p) p) (λ a' b'. reported a' b' (at + length p) ps)) (end_of (at + length p) ps)
   unfolding continued
   piece_stands at p ps a b before y (Ok z) is e pass rest =
@@ -84,7 +84,7 @@ module _ (x : Telling) where
       let own = reported (cleared told) z.1 to ps in
       let here : then_comes told.report.text (pieces_told x false (cleared told) z.1 to ps) ≡ told_with (behind told.report.text own) (end_of to ps) =
       ap (then_comes told.report.text) next ∙ both_come told.report.text own.lines _ in
-      subst (λ (r : Course). piece_told x a at p r (λ a' b'. pieces_told x false a' b' to ps) ≡ told_with (by_piece a at p r (λ a' b'. reported a' b' to ps)) (end_of to ps))
+      subst (λ (r : Course). piece_told x a at p ps r (λ a' b'. pieces_told x false a' b' to ps) ≡ told_with (by_piece a at p r (λ a' b'. reported a' b' to ps)) (end_of to ps))
       (sym (piece_elsewhere b (before + length p) to p z is)) here
   piece_stands at p ps a b before y (Err f) is e pass rest = absurd cc
 
@@ -93,7 +93,7 @@ module _ (x : Telling) where
   stands_on at [] a b optional before y e pass off = end_stands at a b optional before y e pass off
   stands_on at (p ∷ ps) a b optional before y e pass off =
       let to = at + length p in
-      ap (λ (l : Option Limit). unless_passed l x.totals a (piece_told x a at p (piece_read b to p) (λ a' b'. pieces_told x false a' b' to ps))) pass.0
+      ap (λ (l : Option Limit). unless_passed l x a (piece_told x a at p ps (piece_read b to p) (λ a' b'. pieces_told x false a' b' to ps))) pass.0
       ∙ piece_stands at p ps a b before y (piece_read b (before + length p) p) refl (sym (rest_more b before p ps) ∙ e) pass.1 (stands_on to ps)
 
 no_piece : (ps : List (List ℕ)) (at : ℕ) (y : Events × Between) → rest_read at_start at ps ≡ Ok y → ps ≡ [] → ⊥

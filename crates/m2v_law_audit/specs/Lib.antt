@@ -7,3 +7,4 @@ pub mod Accounts
 pub mod Verdicts
 pub mod Moved
 pub mod Figures
+pub mod Encoded

@@ -15,8 +15,10 @@ use Rattle.m2v_audit.specs.declared.records.FailureRecord.{FailureRecord}
 use Rattle.m2v_audit.specs.declared.records.CountRecord.{CountRecord}
 use Rattle.m2v_audit.specs.declared.records.EndRecord.{EndRecord}
 use Rattle.m2v_audit.specs.declared.records.TotalRecord.{TotalRecord}
+use Rattle.m2v_audit.specs.declared.outcome.Ending.{Ending}
+use Rattle.m2v_audit.specs.declared.outcome.Ending.TheVariants as endings
 use Rattle.m2v_audit.specs.Auditing.{is_begun}
-use Rattle.m2v_audit.specs.Audited.{then_comes, none_counted, counted_with, texts_told, audited}
+use Rattle.m2v_audit.specs.Audited.{asked_behind, then_comes, none_counted, counted_with, texts_told, audited}
 use Rattle.m2v_audit.specs.Lines.{audit_line, columns_lines, skipped_line, sequence_line, group_line, picture_line, held_line, breach_line, warning_line, failure_line, count_line, end_line}
 use Rattle.m2v_audit.specs.declared.asked.Asked.{Asked}
 use Rattle.m2v_audit.specs.m2v_strict.RuleSets.{name_of}
@@ -80,19 +82,22 @@ pub record IsMoved (asked : Asked) (number start : ℕ) (text : List ℕ) : Type
 
 -- ---- text after text
 
--- Behind a report's first lines stands that of the first text's sequence, and then those of the texts that follow it.
+-- Behind a report's first lines stands that of the first text's sequence, and then those of the texts that follow it, of which
+-- is asked what is asked behind this sequence.
 abbrev pub BeginsWith : Asked → List ℕ → Type 0
 BeginsWith asked text =
     let own = sequence_report asked 0 0 text in
     let end = end_of (first_byte 0 text) (pieces text) in
     audited asked text
     ≡ then_comes ((audit_line (name_of asked.rules) ++ columns_lines) ++ own.lines)
-    (texts_told (length text) asked true (counted_with none_counted own.kept) end (text_after text))
+    (texts_told (1 + length text) (asked_behind asked own.kept) true endings.Whole (counted_with none_counted own.kept) end (text_after text))
 
--- The same of a later text, which begins at a byte of the input, and of no more than a number of texts behind it.
+-- The same of a later text, which begins at a byte of the input, and of no more than a number of texts behind it, however the
+-- report ends by the texts before.
 abbrev pub GoesOnWith : ℕ → Asked → TotalRecord → ℕ → List ℕ → Type 0
 GoesOnWith n asked t start text =
     let own = sequence_report asked t.sequences start text in
     let end = end_of (first_byte start text) (pieces text) in
-    texts_told (suc n) asked true t start text
-    ≡ then_comes own.lines (texts_told n asked true (counted_with t own.kept) end (text_after text))
+    (so_far : Ending)
+    → texts_told (suc n) asked true so_far t start text
+    ≡ then_comes own.lines (texts_told n (asked_behind asked own.kept) true so_far (counted_with t own.kept) end (text_after text))

@@ -5,7 +5,7 @@ use Rattle.m2v_model.specs.PieceNotes.{notes_of}
 use Rattle.m2v_model.specs.ByPieces.{Between, Course, at_start, piece_read, end_of}
 use Rattle.m2v_audit.specs.declared.auditing.Auditing.{Auditing}
 use Rattle.m2v_audit.specs.Auditing.{nothing, cleared, after_piece, ended}
-use Rattle.m2v_audit.specs.Audited.{Telling, then_comes, counted_with, pieces_told, limit_at}
+use Rattle.m2v_audit.specs.Audited.{Telling, then_comes, pieces_told, limit_at}
 use Rattle.m2v_audit.specs.declared.asked.Asked.{Asked}
 
 -- lines that were told, and what is kept behind them; the lines of a piece are taken away from what is kept
@@ -53,4 +53,4 @@ StandsIn asked x later text =
     let own = sequence_report asked x.totals.sequences x.start text in
     let at = first_byte x.start text in
     pieces_told x later (nothing x.totals.sequences asked x.start) at_start at (pieces text)
-    ≡ then_comes own.lines (x.next (counted_with x.totals own.kept) (end_of at (pieces text)))
+    ≡ then_comes own.lines (x.next own.kept (end_of at (pieces text)))

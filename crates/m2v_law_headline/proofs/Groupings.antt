@@ -21,7 +21,7 @@ inner_step u bytes us h =
     cond-false (is_end (slice_index u 3)) _ _ h.goes
     ∙ cond-false (begins_piece (slice_index u 3)) _ _ h.inner
 
-inner_on : (us : Units) (bytes : List ℕ) (rest : Units) → All IsInner us → grouped Picture bytes (us ++ rest) ≡ grouped Picture (bytes ++ joined us) rest
+pub inner_on : (us : Units) (bytes : List ℕ) (rest : Units) → All IsInner us → grouped Picture bytes (us ++ rest) ≡ grouped Picture (bytes ++ joined us) rest
 inner_on [] bytes rest h = ap (λ (b : List ℕ). grouped Picture b rest) (sym (append-nil bytes))
 inner_on (u ∷ us) bytes rest h =
     inner_step u bytes (us ++ rest) (All-head IsInner u us h)
@@ -39,7 +39,7 @@ pub record IsFirst (us : Units) : Type 0 where
   pub begins : (rest : Units) → grouped Before [] (us ++ rest) ≡ grouped Picture (joined us) rest
 
 -- a unit by its value
-abbrev by_value : ℕ → List ℕ → List ℕ
+abbrev pub by_value : ℕ → List ℕ → List ℕ
 by_value value t = 0 ∷ 0 ∷ 1 ∷ value ∷ t
 
 pub plain_piece : (p c : List ℕ) (slices : Units) → All IsInner slices → IsPiece (by_value 0x00 p ∷ by_value 0xB5 c ∷ slices)

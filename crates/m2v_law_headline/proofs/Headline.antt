@@ -61,10 +61,10 @@ module _ (s : Settings) (frames : List (List ℕ)) (passes : Passes s) (some : 1
       ∙ ap (λ (xs : List SentPicture). get_or (map (λ (x : SentPicture). x.delay) xs) 0 0) begins.2 in
       head ∙ begins.3.delay
 
-  told : AreTold s frames (numbers_of s frames)
+  pub told : AreTold s frames (numbers_of s frames)
   told = record { count = count; first = first; times = stream_intervals s frames passes some few }
 
-  account_same : account_in (Coded s frames) (tree_of s frames) ≡ account_told s frames (numbers_of s frames)
+  pub account_same : account_in (Coded s frames) (tree_of s frames) ≡ account_told s frames (numbers_of s frames)
   unfolding sequence_extension_of
   account_same =
       let is = (stream_told s frames passes some few).first in

@@ -25,11 +25,11 @@ use Rattle.m2v_law_headline.proofs.Groupings.{IsInner, IsPiece, IsFirst, plain_p
 -- ---- slices
 
 -- a slice's start code is one of 1 to 175
-slice_goes : (n : ℕ) → 1 ≤ n → n ≤ 175 → is_end n ≡ false
+pub slice_goes : (n : ℕ) → 1 ≤ n → n ≤ 175 → is_end n ≡ false
 unfolding is_end
 slice_goes n some few = ne_eqb n 0xB7 (λ e. omega (arith, few, e))
 
-slice_inner : (n : ℕ) → 1 ≤ n → n ≤ 175 → begins_piece n ≡ false
+pub slice_inner : (n : ℕ) → 1 ≤ n → n ≤ 175 → begins_piece n ≡ false
 unfolding begins_piece
 slice_inner n some few =
     rw (ne_eqb n 0x00 (λ e. omega (arith, some, e)), ne_eqb n 0xB3 (λ e. omega (arith, few, e)), ne_eqb n 0xB7 (λ e. omega (arith, few, e)), ne_eqb n 0xB8 (λ e. omega (arith, few, e))) refl
@@ -42,7 +42,7 @@ inner_slice b h p r more small =
       inner = slice_inner (r + 1) (omega arith) (omega (arith, few, small));
     }
 
-inner_map : (bytes : ℕ → List ℕ) (from n : ℕ) → ((r : ℕ) → r < from + n → IsInner (bytes r)) → All IsInner (map bytes (range_with_len from n))
+pub inner_map : (bytes : ℕ → List ℕ) (from n : ℕ) → ((r : ℕ) → r < from + n → IsInner (bytes r)) → All IsInner (map bytes (range_with_len from n))
 inner_map bytes from zero each = All-nil IsInner
 inner_map bytes from (suc n) each =
     All-cons IsInner (bytes from) (map bytes (range_with_len (from + 1) n)) (each from (omega arith)) (inner_map bytes (from + 1) n (λ r lt. each r (omega (arith, lt))))

@@ -27,7 +27,7 @@ use Rattle.m2v_law_headline.proofs.Told.{Told, groups_give, groups_hold, units_a
 
 -- ---- the end
 
-ends_here : is_end (slice_index end_bytes 3) ≡ true
+pub ends_here : is_end (slice_index end_bytes 3) ≡ true
 unfolding is_end
 ends_here = refl
 

@@ -1,5 +1,5 @@
 -- The rules of a video DVD.
-use Rattle.std.specs.Prelude.{ℕ, ◌+◌, ◌-◌, ◌*◌, min, ◌^◌, Bool, ◌&&◌, ◌||◌, not, nat_eq, nat_le, if◌then◌else◌, ◌++◌}
+use Rattle.std.specs.Prelude.{ℕ, ◌+◌, ◌-◌, ◌*◌, min, ◌^◌, Bool, ◌&&◌, ◌||◌, not, nat_eq, nat_le, if◌then◌else◌, [], ◌++◌, Option, Some, None}
 use Rattle.m2v_model.specs.declared.state.Sequence.{Sequence}
 use Rattle.m2v_model.specs.States.{width_of, height_of, is_b}
 use Rattle.m2v_model.specs.Lawful.{rate_of}
@@ -52,6 +52,14 @@ unfoldable pub wide_warning : Sequence → Remarks
 wide_warning s =
     looked_at (not (nat_eq (width_of s) 720 || nat_eq (width_of s) 704))
     (judge (not (nat_eq s.info.aspect 3)) (remark 71 elements.AspectRatioInformation 3 2))
+
+-- 70, a warning: size, rate and aspect are those of the first sequence of all, where it is another
+unfoldable pub like_warning : Option Sequence → Sequence → Remarks
+like_warning None s = []
+like_warning (Some first) s =
+    equal 70 elements.Size (size_of s) (size_of first)
+    ++ equal 70 elements.FrameRateCode s.info.frame_rate_code first.info.frame_rate_code
+    ++ equal 70 elements.AspectRatioInformation s.info.aspect first.info.aspect
 
 abbrev pub dvd_remarks : Sequence → Remarks
 dvd_remarks s = size_rule s ++ format_rule s ++ form_warning s ++ wide_warning s

@@ -27,6 +27,6 @@ passing_rule g = judge (not (passes_over g) || nat_le 2 g.pictures) (remark 26 e
 unfoldable pub broken_link_warning : GroupInfo → Remarks
 broken_link_warning g = unset 56 elements.BrokenLink g.broken_link
 
--- by number, of a group header in a sequence of this frame_rate_code
+-- by number: the rules on a group header in a sequence of this frame_rate_code; then come the warnings, 55 (`time_warnings`) and 56
 abbrev pub group_remarks : ℕ → GroupInfo → Remarks
-group_remarks code g = time_code_rule g ++ drop_rule code g ++ passing_rule g ++ broken_link_warning g
+group_remarks code g = time_code_rule g ++ drop_rule code g ++ passing_rule g

@@ -3,7 +3,12 @@ pub mod Remarks
 pub mod RuleSets
 pub mod SequenceRules
 pub mod GroupRules
+pub mod TimeRules
 pub mod PictureRules
+pub mod OrderRules
+pub mod ArrivalRules
+pub mod ParityRules
+pub mod OtherRules
 pub mod DvdRules
 pub mod BroadcastRules
 pub mod SetRules

@@ -1,7 +1,7 @@
 //! The rules of a video DVD.
 ghost use Rattle.std.specs.Prelude.{◌≡◌};
 ghost use Rattle.m2v_strict.specs.Remarks.{told_at, told_by};
-ghost use Rattle.m2v_strict.specs.DvdRules.{size_of, is_full_width, full_height, half_height, is_disc_size, size_rule, format_rule, form_warning, wide_warning, dvd_remarks, headed_warning, no_runs, runs_at_group, b_frames_with, runs_with, most_fields, fields_rule, b_frames_warning, first_group_warning, dvd_picture_remarks};
+ghost use Rattle.m2v_strict.specs.DvdRules.{size_of, is_full_width, full_height, half_height, is_disc_size, size_rule, format_rule, form_warning, wide_warning, dvd_remarks, like_warning, headed_warning, no_runs, runs_at_group, b_frames_with, runs_with, most_fields, fields_rule, b_frames_warning, first_group_warning, dvd_picture_remarks};
 
 use crate::element::Element;
 use crate::remark::{Remark, at_most, equal, judge, unset, within};
@@ -120,6 +120,33 @@ pub fn dvd_rules(s: &Sequence) -> [Option<Remark>; 8]
         form[0],
         form[1],
         wide_warning(s),
+    ]
+}
+
+/// The warning on a sequence header beside that of the first sequence of all (70), where it is of another one.
+#[tactic(auto, unfolding(crate::specs::DvdRules::like_warning))]
+pub fn like_warning(first: &Option<Sequence>, s: &Sequence) -> [Option<Remark>; 3]
+    ensures { told_by result ≡ like_warning first.now s.now }
+{
+    let Some(first) = first else {
+        return [None, None, None];
+    };
+    let (code, aspect) = (s.info.frame_rate_code, s.info.aspect);
+    let (first_code, first_aspect) = (first.info.frame_rate_code, first.info.aspect);
+    [
+        equal(70, Element::Size, size_of(s), size_of(first)),
+        equal(
+            70,
+            Element::FrameRateCode,
+            u128::from(code),
+            u128::from(first_code),
+        ),
+        equal(
+            70,
+            Element::AspectRatioInformation,
+            u128::from(aspect),
+            u128::from(first_aspect),
+        ),
     ]
 }
 

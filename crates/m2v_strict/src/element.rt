@@ -19,6 +19,9 @@ pub enum Element {
     VbvBufferSize,
     ConstrainedParametersFlag,
     IntraQuantiserMatrix,
+    ChromaIntraQuantiserMatrix,
+    LoadChromaIntraQuantiserMatrix,
+    LoadChromaNonIntraQuantiserMatrix,
     ProfileAndLevelIndication,
     LowDelay,
     FrameRateExtensionN,
@@ -28,6 +31,8 @@ pub enum Element {
     TimeCodeMinutes,
     TimeCodeSeconds,
     TimeCodePictures,
+    /// The four numbers of a time code together.
+    TimeCode,
     BrokenLink,
     VbvDelay,
     FullPelForwardVector,
@@ -58,6 +63,18 @@ pub enum Element {
     BFrames,
     /// A group header before the first picture.
     FirstGroup,
+    /// The bits between two pictures, beside those that arrive at the bit rate.
+    ArrivalRate,
+    /// Whether a field is the top one (1) or the bottom one (0).
+    FieldParity,
+    /// The headers before a picture, one after another.
+    HeaderOrder,
+    PictureCodingType,
+    /// A sequence end code behind the last picture.
+    SequenceEndCode,
+    ExtraBitPicture,
+    /// A sequence display extension behind a sequence header.
+    SequenceDisplayExtension,
 }
 
 impl Element {
@@ -76,6 +93,9 @@ impl Element {
             Element::VbvBufferSize => "vbv_buffer_size",
             Element::ConstrainedParametersFlag => "constrained_parameters_flag",
             Element::IntraQuantiserMatrix => "intra_quantiser_matrix",
+            Element::ChromaIntraQuantiserMatrix => "chroma_intra_quantiser_matrix",
+            Element::LoadChromaIntraQuantiserMatrix => "load_chroma_intra_quantiser_matrix",
+            Element::LoadChromaNonIntraQuantiserMatrix => "load_chroma_non_intra_quantiser_matrix",
             Element::ProfileAndLevelIndication => "profile_and_level_indication",
             Element::LowDelay => "low_delay",
             Element::FrameRateExtensionN => "frame_rate_extension_n",
@@ -85,6 +105,7 @@ impl Element {
             Element::TimeCodeMinutes => "time_code_minutes",
             Element::TimeCodeSeconds => "time_code_seconds",
             Element::TimeCodePictures => "time_code_pictures",
+            Element::TimeCode => "time_code",
             Element::BrokenLink => "broken_link",
             Element::VbvDelay => "vbv_delay",
             Element::FullPelForwardVector => "full_pel_forward_vector",
@@ -106,6 +127,13 @@ impl Element {
             Element::GroupFields => "group_fields",
             Element::BFrames => "b_frames",
             Element::FirstGroup => "first_group",
+            Element::ArrivalRate => "arrival_rate",
+            Element::FieldParity => "field_parity",
+            Element::HeaderOrder => "header_order",
+            Element::PictureCodingType => "picture_coding_type",
+            Element::SequenceEndCode => "sequence_end_code",
+            Element::ExtraBitPicture => "extra_bit_picture",
+            Element::SequenceDisplayExtension => "sequence_display_extension",
         }
     }
 }

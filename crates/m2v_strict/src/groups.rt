@@ -52,16 +52,16 @@ fn passing_rule(g: &GroupInfo) -> Option<Remark>
     judge(!passes_over(g) || g.pictures >= 2, remark)
 }
 
-/// The group before is missing.
+/// The warning that the group before is missing (56).
 #[tactic(auto, unfolding(crate::specs::GroupRules::broken_link_warning))]
-fn broken_link_warning(g: &GroupInfo) -> Option<Remark>
+pub fn broken_link_warning(g: &GroupInfo) -> Option<Remark>
     ensures { told_at result ≡ broken_link_warning g.now }
 {
     unset(56, Element::BrokenLink, g.broken_link)
 }
 
-/// The rules on a group header (24 to 26) and the warning (56), by number, in a sequence of this frame_rate_code.
-pub fn group_rules(code: u8, g: &GroupInfo) -> [Option<Remark>; 7]
+/// The rules on a group header (24 to 26), by number, in a sequence of this frame_rate_code.
+pub fn group_rules(code: u8, g: &GroupInfo) -> [Option<Remark>; 6]
     ensures { told_by result ≡ group_remarks code g.now }
 {
     let numbers = time_code_rule(g);
@@ -72,6 +72,5 @@ pub fn group_rules(code: u8, g: &GroupInfo) -> [Option<Remark>; 7]
         numbers[3],
         drop_rule(code, g),
         passing_rule(g),
-        broken_link_warning(g),
     ]
 }

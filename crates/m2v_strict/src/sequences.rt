@@ -59,7 +59,7 @@ fn constrained_rule(s: &Sequence) -> Option<Remark>
 
 /// The first number of a matrix of intra blocks is 8.
 #[tactic(auto, unfolding(crate::specs::SequenceRules::first_number_rule))]
-fn first_number_rule(matrix: &Option<[u8; 64]>) -> Option<Remark>
+pub(crate) fn first_number_rule(matrix: &Option<[u8; 64]>) -> Option<Remark>
     ensures { told_at result ≡ first_number_rule matrix.now }
 {
     match matrix {

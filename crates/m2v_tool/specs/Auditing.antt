@@ -45,7 +45,7 @@ unfoldable pub rules_in : List Row → Option RuleSet
 rules_in rows = rules_named (unwrap_or (first_of (codes "for") rows) (codes "main"))
 
 unfoldable pub audit_of : List Row → Option Asked
-audit_of rows = option_map (λ rules. record { rules = rules; pictures = flag (codes "pictures") rows }) (rules_in rows)
+audit_of rows = option_map (λ rules. record { rules = rules; pictures = flag (codes "pictures") rows; first = None }) (rules_in rows)
 
 -- what the words behind `audit` mean, where `clap` takes them and the rule set is one
 unfoldable pub audit_meant : List Text → Option Asked
@@ -87,7 +87,7 @@ found_ending t = record {
 unfoldable pub whole_ending : TotalRecord → Ending
 whole_ending t = if nat_eq t.breaches 0 && nat_eq t.failures 0 then clean_ending t else found_ending t
 
--- the first fault, and a limit that is passed, come before what was found
+-- the first fault of the input, or a limit that is passed before any, comes before what was found
 unfoldable pub limit_ending : LimitKind → Ending
 limit_ending limits.TooLong = ending_past too_long
 limit_ending limits.TooLarge = ending_past too_large

@@ -55,6 +55,7 @@ fn audit_of(matches: &ArgMatches) -> Option<Asked>
         Some(rules) => Some(Asked {
             rules,
             pictures: flag(matches, "pictures"),
+            first: None,
         }),
         None => None,
     }

@@ -1,15 +1,16 @@
 use Rattle.std.proofs.Common.{Err, refl, ap, sym, ◌∙◌, arith}
-use Rattle.std.proofs.lemmas.Result.{err_from_is_err_and}
 use Rattle.m2v_port.proofs.Runs.{stays_here, stays_on}
 use Rattle.m2v_strict.proofs.m2v_check.m2v_decode.EndLaws.{whole_length}
 use Rattle.m2v_audit.proofs.TextSteps.{so_none, so_more, so_all, stops_on, cutter_stops, piece_stops}
 use Rattle.m2v_audit.proofs.PieceTelling.{bytes_then, shut_then}
+use Rattle.m2v_audit.proofs.FeedLaws.{cutter_is, begun_behind, waits_refused}
 use Rattle.m2v_audit.proofs.pieces.tell_pieces.Goals as goal
 
 pub loop-e-init : goal.loop-e-init
 loop-e-init g c = rw c.requires.reader (record {
   so_far = so_none g.S.Source.left g.S.Source.faults g.K.Sink.held g.K.Sink.faults _ _ _ _ _;
   cutting = c.requires.going;
+  waits = c.requires.waits;
   still = refl;
   sound = refl;
   counted = omega arith;
@@ -25,8 +26,8 @@ returns-in-Err-clause-err g c =
     let inv = c.loop-e.invariant in
     let so = inv.so_far in
     let x = c.in-Err.ensures in
-    stops_on g.S.Source.left g.S.Source.faults g.K.Sink.held g.K.Sink.faults _ _ _ _ _ _ _ _ _ c.in-Err.e inv.input inv.output.counts so.leads
-    (cutter_stops g.S.Source.left g.S.Source.faults g.K.Sink.held g.K.Sink.faults _ _ _ _ _ _ _ c.in-Err.e (λ e. x.failed (ap Err e)) x.kind x.err)
+    stops_on g.S.Source.left g.S.Source.faults g.K.Sink.held g.K.Sink.faults _ _ _ _ _ _ _ _ _ _ _ _ _ _ _ c.in-Err.e inv.input inv.output.counts c.requires.none inv.onward so
+    (cutter_stops g.S.Source.left g.S.Source.faults g.K.Sink.held g.K.Sink.faults _ _ _ _ _ _ _ _ _ c.in-Err.e (λ e. x.failed (ap Err e)) x.kind x.err)
 
 pub returns-in-Ok-None-clause-ok : goal.returns-in-Ok-None-clause-ok
 returns-in-Ok-None-clause-ok g c =
@@ -36,18 +37,31 @@ returns-in-Ok-None-clause-ok g c =
     let onward = rw c.in-Ok-None.field-0-is at c.in-Ok-None.ensures.onward in
     so_all g.S.Source.left g.S.Source.faults g.K.Sink.held g.K.Sink.faults _ _ _ _ _ _ _ _ _ _ _ _ _ inv.so_far x over onward.1 onward.0 inv.still inv.sound
 
-pub returns-in_err-tell_piece-in-Ok-Some-clause-err : goal.returns-in_err-tell_piece-in-Ok-Some-clause-err
-returns-in_err-tell_piece-in-Ok-Some-clause-err g c =
+pub returns-in-Err-tell_piece-clause-err : goal.returns-in-Err-tell_piece-clause-err
+returns-in-Err-tell_piece-clause-err g c =
     let inv = c.loop-e.invariant in
     let so = inv.so_far in
-    let x = rw c.in-Ok-Some.field-0-is at c.in-Ok-Some.ensures.ok in
-    let begun = rw c.in-Ok-Some.field-0-is at c.in-Ok-Some.ensures.begun in
+    let cutter = cutter_is c.next_piece.new.self c.next_piece.ensures.again in
+    let x = rw (c.in-Ok-Some.field-0-is, cutter) at c.in-Ok-Some.ensures.ok in
+    let begun = rw (c.in-Ok-Some.field-0-is, cutter) at c.in-Ok-Some.ensures.begun in
     let sound = rw c.in-Ok-Some.field-0-is at c.in-Ok-Some.ensures.sound in
-    let p = err_from_is_err_and c.from_residual.result c.from_residual.ensures.1 in
-    let e = c.in_err-tell_piece-in-Ok-Some.field-0.0 in
-    rw (p.1, p.2)
-    (stops_on g.S.Source.left g.S.Source.faults g.K.Sink.held g.K.Sink.faults _ _ _ _ _ _ _ _ _ e inv.input inv.output.counts so.leads
-    (piece_stops g.S.Source.left g.S.Source.faults g.K.Sink.held g.K.Sink.faults _ _ _ _ _ _ _ _ _ so.decoder _ e x begun sound (c.in_err-tell_piece-in-Ok-Some.ensures.err so.decoder so.follows)))
+    let onward = rw (c.in-Ok-Some.field-0-is, cutter) at c.in-Ok-Some.ensures.onward in
+    let going = rw cutter at c.in-Ok-Some.ensures.going in
+    let e = c.in-Err-tell_piece.e in
+    rw (c.refused.ensures, c.is_begun.ensures)
+    (stops_on g.S.Source.left g.S.Source.faults g.K.Sink.held g.K.Sink.faults _ _ _ _ _ _ _ _ _ _ _ _ _ _ _ e inv.input inv.output.counts c.requires.none inv.onward so
+    (piece_stops g.S.Source.left g.S.Source.faults g.K.Sink.held g.K.Sink.faults _ _ _ _ _ _ _ _ _ so.decoder _ e x begun going sound onward.0 onward.1 (c.in-Err-tell_piece.ensures.err so.decoder so.follows)))
+
+pub returns-in-Err-tell_piece-clause-waits : goal.returns-in-Err-tell_piece-clause-waits
+returns-in-Err-tell_piece-clause-waits g c =
+    let so = c.loop-e.invariant.so_far in
+    let cutter = cutter_is c.next_piece.new.self c.next_piece.ensures.again in
+    let x = rw (c.in-Ok-Some.field-0-is, cutter) at c.in-Ok-Some.ensures.ok in
+    let begun = rw (c.in-Ok-Some.field-0-is, cutter) at c.in-Ok-Some.ensures.begun in
+    let sound = rw c.in-Ok-Some.field-0-is at c.in-Ok-Some.ensures.sound in
+    let onward = rw (c.in-Ok-Some.field-0-is, cutter) at c.in-Ok-Some.ensures.onward in
+    rw (c.refused.ensures, c.is_begun.ensures)
+    (waits_refused c.in-Ok-Some.piece _ _ _ _ x sound begun onward.1 so.decoder _ _ _ c.in-Err-tell_piece.e (c.in-Err-tell_piece.ensures.err so.decoder so.follows) (begun_behind _ _ _ _ _ _ _ so.decoder c.requires.none so.some))
 
 pub loop-e-preserved : goal.loop-e-preserved
 loop-e-preserved g c =
@@ -57,7 +71,7 @@ loop-e-preserved g c =
     let begun = rw c.in-Ok-Some.field-0-is at c.in-Ok-Some.ensures.begun in
     let sound = rw c.in-Ok-Some.field-0-is at c.in-Ok-Some.ensures.sound in
     let onward = rw c.in-Ok-Some.field-0-is at c.in-Ok-Some.ensures.onward in
-    let told = c.in_ok-tell_piece-in-Ok-Some.ensures.ok in
+    let told = c.in-Ok.ensures.ok in
     let leads = told.leads so.decoder so.follows in
     let advanced = leads.advanced in
     let then = leads.follows in
@@ -65,6 +79,7 @@ loop-e-preserved g c =
     record {
       so_far = so_more g.S.Source.left g.S.Source.faults g.K.Sink.held g.K.Sink.faults _ _ _ _ _ _ _ _ _ _ _ _ _ _ _ _ _ so x begun sound inv.onward onward.0 onward.1 told;
       cutting = c.in-Ok-Some.ensures.going;
+      waits = rw c.next_piece.ensures.again tt;
       still = sym then.ended ∙ advanced.going;
       sound = sym then.failed ∙ advanced.sound;
       counted = let before = so.follows.pictures in omega (arith, inv.counted, before, then.pictures, advanced.counted, advanced.few, whole, onward.0, onward.1);
