@@ -13,17 +13,18 @@ and streams, and holds the report against a simulation in time and against the v
 sets against that by main. --program holds a program against the report, on the streams of the table, drawn ones and damaged
 ones, each by main and by one of the other sets.
 
-A text is the input, and then what stands behind each sequence end code. Of each the pieces are told in turn, a piece
+A text is the input, and then what stands behind each sequence end code and behind each fault. Of each the pieces are told in turn, a piece
 being a picture with the headers before it, up to the next header, picture or end behind it."""
 
 import sys
 from collections import defaultdict, deque
 from dataclasses import dataclass
 
-from audited_account import account, fields, rate_of
+from audited_account import account, fields, intervals, rate_of
 from audited_records import Records, head, line
 from audited_sets import SETS, set_in
-from audited_strict import group_remarks, header_remarks, picture_remarks
+from audited_strict import (Arrival, Displays, Leading, Parity, arrival, besides, end_remarks, group_remarks, header_remarks,
+                            picture_remarks)
 from faults import first_fault
 from pictures_writer import B, I, P
 from verdicts import (END, GROUP, PICTURE, SEQUENCE, Coded, Group, Parser, Sequence, header_breaches, parts,
@@ -38,19 +39,28 @@ TYPES = {I: 'I', P: 'P', B: 'B'}
 
 # ---- texts and pieces
 
-def texts(data):
-    """Each text: where it begins, the bytes of each of its pieces, and where the next one begins or the input ends."""
-    start, onward = 0, True
-    while onward:
-        units, edges, pictured = parts(data, start), [], False
-        for at, value, _ in units:
-            if not edges or pictured and value in (PICTURE, SEQUENCE, END, GROUP):
-                edges.append(at)
-                pictured = False
-            pictured = pictured or value == PICTURE
-        end = units[-1][2] if units else len(data)
-        yield start, list(zip(edges, edges[1:] + [end])), end
-        start, onward = end, bool(units) and units[-1][1] == END
+def text_at(data, start):
+    """The text that begins at a byte: the bytes of each of its pieces, and where it ends."""
+    units, edges, pictured = parts(data, start), [], False
+    for at, value, _ in units:
+        if not edges or pictured and value in (PICTURE, SEQUENCE, END, GROUP):
+            edges.append(at)
+            pictured = False
+        pictured = pictured or value == PICTURE
+    end = units[-1][2] if units else len(data)
+    return list(zip(edges, edges[1:] + [end])), end
+
+
+def onward(data, pieces, stop, record, end):
+    """Where the next text begins: behind a fault behind its piece, or with it, where another sequence begins there and that is
+    the fault; a limit ends the report."""
+    if not record or stop == len(pieces):
+        return end
+    if record[0] == 'limit':
+        return None
+    begin, behind = pieces[stop]
+    another = stop > 0 and record[1] == 8 * begin and data[begin:begin + 4] == bytes((0, 0, 1, SEQUENCE))
+    return begin if another else behind
 
 
 def stop_in(data, start, pieces):
@@ -110,10 +120,10 @@ class Picture:
 
 
 class Told:
-    """What is told of a sequence by a set of rules: of its pieces up to the one where it stops."""
+    """What is told of a sequence by its set of rules: of its pieces up to the one where it stops."""
 
     def __init__(self, number, each, rules, data, start, pieces):
-        self.records, self.rules, self.pieces, self.data = Records(number, each), SETS[rules](), pieces, data
+        self.records, self.rules, self.pieces, self.data = Records(number, each), rules, pieces, data
         base, end = pieces[0][0], pieces[-1][1]
         stream = Parser(data[base:end])
         self.headers = deque((8 * (base + at), header) for at, header in stream.headers)
@@ -126,7 +136,10 @@ class Told:
             self.pictures[-1].bits = 8 * (pieces[-1][1] - pieces[len(self.pictures) - 1][0])
         self.rate = rate_of(self.first, stream.coded)
         self.removals = account(self.first, stream.coded, [(p.bits, p.code_bits) for p in self.pictures])
-        self.at = self.groups = self.told = self.gone = 0
+        self.at = self.groups = self.told = self.gone = self.fields = 0
+        self.leading, self.parity, self.last_group = Leading(), Parity(self.low_delay), None
+        self.displays = Displays()
+        self.units, self.arrived = intervals(self.first, stream.coded), None
         self.begin(start)
         for piece in pieces:
             self.piece(*piece)
@@ -139,18 +152,26 @@ class Told:
                          s.low_delay, s.rate, s.buffer, self.rate)
 
     def piece(self, begin, end):
+        pictures, also = [], besides(self.data, begin, end)
         while self.headers and self.headers[0][0] < 8 * end:
             bit, header = self.headers.popleft()
             if isinstance(header, Sequence):
                 for broken in header_breaches(header):
                     self.records.breach(self.at, bit, *broken)
                 self.code = header.code
-                of_main = (r for r in header_remarks(header, self.first) if r[0] not in self.rules.silent)
+                of_main = (r for r in header_remarks(header, self.first, self.leading) if r[0] not in self.rules.silent)
                 self.remarks(self.at, bit, of_main, self.rules.header(header))
+                self.leading.sequence = True
             elif isinstance(header, Group):
                 self.group(bit, header)
             else:
-                self.picture(bit, header, begin, end)
+                pictures.append((bit, header))
+        if self.leading.sequence:
+            self.remarks(self.at, 8 * begin, self.displays.remarks(also.display), [])
+        for bit, header in pictures:
+            self.picture(bit, header, begin, end)
+            for at, remarks in also.remarks:
+                self.remarks(self.at - 1, at, remarks, [])
         # a removal is told once its picture is whole and no more bits change what is told of it
         while self.told < min(self.at - 1, len(self.removals)):
             r = self.removals[self.told]
@@ -162,7 +183,9 @@ class Told:
         self.places(('group', self.groups))
         self.records.put_each('group', self.groups, bit, self.at, g.drop, g.hours, g.minutes, g.seconds, g.pictures,
                               g.closed, g.broken)
-        self.remarks(self.at, bit, group_remarks(g, self.code), self.rules.group())
+        of_main = group_remarks(g, self.code, self.leading, self.last_group, self.fields)
+        self.remarks(self.at, bit, of_main, self.rules.group())
+        self.leading.group, self.last_group, self.fields = True, g, 0
         self.groups += 1
 
     def picture(self, bit, p, begin, end):
@@ -173,13 +196,24 @@ class Told:
         constant = self.pictures[0].coded.delay != 65535
         for broken in picture_breaches(p, constant):
             self.records.breach(self.at, bit, *broken)
-        self.remarks(self.at, bit, picture_remarks(p, constant), self.rules.picture(self.at, p))
+        arrivals = arrival(self.first.rate, self.arrived, bit + 32, p.delay)
+        of_main = picture_remarks(p, constant, self.leading.sequence, arrivals)
+        self.remarks(self.at, bit, of_main, self.rules.picture(self.at, p))
+        self.arrived = Arrival(bit + 32, self.units[self.at], p.delay)
+        self.leading = Leading()
+        self.fields += fields(p)
         self.places(('picture', self.at))
+        self.told_apart(self.parity.picture(self.at, bit, p))
         self.at += 1
 
     def remarks(self, picture, bit, of_main, of_set):
         for remark in (*of_main, *of_set):
             self.records.remark(picture, bit, *remark)
+
+    def told_apart(self, remarks):
+        """What is remarked of other pictures than the one at hand."""
+        for remark in remarks:
+            self.records.remark(*remark)
 
     def places(self, by):
         for number, have, need in self.misplaced[by]:
@@ -191,10 +225,15 @@ class Told:
         self.gone, self.told = self.gone + p.bits, self.told + 1
 
     def left(self):
-        """At the end: the places of the last group, and the removals that are left."""
+        """At the end: the places of the last group and the anchor that waits, the removals that are left, and what is remarked of
+        the end."""
         self.places(('group', self.groups))
+        self.told_apart(self.parity.shown(self.parity.anchor))
         for r in self.removals[self.told:]:
             self.removal(r)
+        end = self.pieces[-1][1]
+        closed = self.data[:end].endswith(bytes((0, 0, 1, END)))
+        self.remarks(self.at, 8 * end, end_remarks(self.leading, closed), [])
 
     def end(self):
         coded = [p.coded for p in self.pictures]
@@ -223,13 +262,16 @@ def ending(told):
 
 def report(data, pictures=False, rules='main'):
     """The status, the line and the output of an input, by a set of rules."""
-    told, lines, answer = [], [head(rules)], None
-    for start, pieces, end in texts(data):
-        if not pieces and start > 0:
-            lines += [line('skipped', len(told), start, end - start)] if start < end else []
+    told, lines, answer, start, later = [], [head(rules)], None, 0, False
+    while start is not None and (not later or start < len(data)):
+        pieces, end = text_at(data, start)
+        if not pieces and later:
+            lines.append(line('skipped', len(told), start, end - start))
             break
-        stop, record, answer = stop_in(data, start, pieces)
-        sequence = Told(len(told), pictures, rules, data, start, pieces[:stop]) if stop else None
+        stop, record, said = stop_in(data, start, pieces)
+        answer = answer or said
+        of_set = SETS[rules](told[0].first if told else None)
+        sequence = Told(len(told), pictures, of_set, data, start, pieces[:stop]) if stop else None
         records = sequence.records if sequence else Records(len(told), pictures)
         if record:
             records.put(*record)
@@ -239,8 +281,7 @@ def report(data, pictures=False, rules='main'):
             sequence.end()
             told.append(sequence)
         lines += records.lines
-        if record:
-            break
+        start, later = onward(data, pieces, stop, record, end), True
     lines.append(line('total', len(told), *totals(told)))
     return *(answer or ending(told)), ''.join(lines).encode()
 

@@ -6,6 +6,7 @@ Streams are changes of those of the table, or put together by bench/cases/pictur
 
 import audited_buffers  # their sections stand behind those of audited_streams
 import audited_rules
+import audited_running
 import audited_discs
 from audited import report
 from audited_records import head

@@ -74,6 +74,32 @@ def dvd_warnings():
               header(353, 574, aspect=aspect, **worst), comment='Behind those of main: 71, or 62.')
 
 
+def dvd_sequences():
+    section('dvd: a sequence beside the first one')
+    for name, *others in (
+            ('the same', {}), ('another width', dict(width=704)), ('another height', dict(height=288, width=352)),
+            ('another frame rate code', dict(code=4)), ('another aspect_ratio_information', dict(aspect=3)),
+            ('all of them', dict(width=352, height=480, code=4, aspect=1)),
+            ('other elements', dict(rate=24500, buffer=100, low_delay=1)),
+            ('a second one that differs, and a third one like the first', dict(width=704), {}),
+            ('a second one like the first, and a third one that differs', {}, dict(aspect=3)),
+            ('a third one like the second', dict(code=4), dict(code=4))):
+        under('dvd', 'warning 70: ' + name, header(), *[header(**more) for more in others])
+    under('dvd', 'warning 70: each header of the second sequence', header(),
+          interlaced(aspect=2) + group(1) + one(I, rows=2) + interlaced(aspect=2) + one(P, 1, rows=2) + END)
+    under('dvd', 'warning 70: a later header of the first sequence says another aspect_ratio_information',
+          interlaced(aspect=2) + group(1) + one(I, rows=2) + interlaced(aspect=3) + one(P, 1, rows=2) + END,
+          interlaced(aspect=3) + END, comment='Of that one rule 21 is told; of the second sequence 70, beside the first one.')
+    begun = interlaced(aspect=2) + group(1) + one(I, rows=2)
+    cut = begun + one(P, 1, rows=2)[:one(P, 1, rows=2).rindex(b'\0\0\1')]
+    under('dvd', 'warning 70: behind a fault', cut, interlaced(aspect=3) + END, fault=('MissingMacroblocks', 8 * len(cut)))
+    under('dvd', 'warning 70: where the size changes without an end code', begun, header(),
+          fault=('SequenceChanged', 8 * len(begun)))
+    short = header(704)[:20]
+    under('dvd', 'warning 70: behind a first piece with a fault', short, header(aspect=3), header(),
+          fault=('Truncated', 8 * len(short)), comment='It is no sequence: the one behind it is the first.')
+
+
 def dvd_groups():
     section('dvd: group headers, and what a sequence begins with')
     start, whole = interlaced() + group(1) + one(I, rows=2), interlaced() + group(1)
@@ -273,6 +299,6 @@ def of_each():
               more=['each report', 'each output'])
 
 
-for sections in (dvd_sizes, dvd_warnings, dvd_groups, dvd_fields, dvd_b_frames, dvb, atsc_sizes, atsc_rates, atsc_delays,
-                 of_each):
+for sections in (dvd_sizes, dvd_warnings, dvd_sequences, dvd_groups, dvd_fields, dvd_b_frames, dvb, atsc_sizes, atsc_rates,
+                 atsc_delays, of_each):
     sections()

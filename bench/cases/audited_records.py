@@ -70,13 +70,15 @@ class Records:
         self.failures += 1
 
     def removal(self, picture, bit, p, r, first, constant):
-        """What is held, under before over, of a picture behind this first sequence header."""
+        """What is held, under before over, and then warning 54, of a picture behind this first sequence header."""
         delay = r.delay if constant else 65535
         self.put_each('held', picture, r.time, r.before, r.need // 1800, r.after, delay, r.wait)
         if r.under:
             self.failure(picture, bit, 'big' if first.low_delay else 'under', r.time, r.have, r.need, r.wait)
         if r.over:
             self.failure(picture, bit, 'over', r.time, r.have, 1800 * 16384 * first.buffer, 0)
+        if constant and picture > 0 and p.delay != 65535 and abs(p.delay - r.delay) > 1:
+            self.remark(picture, bit, 54, 'vbv_delay', p.delay, r.delay)
         self.lows.append(r.after)
         self.highs.append(r.before)
         self.delays += constant and picture > 0 and p.delay != r.delay

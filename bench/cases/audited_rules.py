@@ -2,7 +2,7 @@
 those of the writer, with single elements of their headers changed."""
 
 from audited_streams import case, each, section
-from pictures_writer import B, END, I, P, Picture, flat, group, sequence
+from pictures_writer import B, END, I, P, Picture, flat, group, matrix_bits, number, sequence, unit
 from slices import INTRA
 from verdicts import parts
 from pictures import picture
@@ -163,6 +163,87 @@ def of_extensions():
             one(I, **frame), one(P, 2, **frame), one(B, 1, repeat=1, **frame), code=code, level=level))
 
 
+def loaded(*matrices):
+    """A quant matrix extension: the intra matrix, another, and both of chroma."""
+    return unit(0xB5, '0011', *map(matrix_bits, (*matrices, None, None, None, None)[:4]))
+
+
+def with_behind(data, unit_at, more):
+    """The stream with more units behind its extension of this number."""
+    ends = [end for _, value, end in parts(data) if value == 0xB5]
+    return data[:ends[unit_at]] + more + data[ends[unit_at]:]
+
+
+def with_extra(data, which, *information):
+    """The stream with bytes of extra information in the header of a picture."""
+    begin, _, end = [part for part in parts(data) if part[1] == 0x00][which]
+    bits = ''.join(number(byte, 8) for byte in data[begin + 4:end])
+    fixed = 29 + {I: 0, P: 4, B: 8}[int(bits[10:13], 2)]
+    return data[:begin] + unit(0x00, bits[:fixed], *['1' + number(byte, 8) for byte in information], '0') + data[end:]
+
+
+def display(video_format=5, colour=None, width=16, height=16, marker=1):
+    """A sequence display extension."""
+    described = '0' if colour is None else '1' + number(colour, 24)
+    return unit(0xB5, '0010', number(video_format, 3), described, number(width, 14), str(marker), number(height, 14))
+
+
+EIGHT, NINE = [8] + [16] * 63, [9] + [16] * 63
+
+
+def of_matrices():
+    section('stricter rules on quant matrix extensions and extra information')
+    data = small() + group(1) + one(I) + one(P, 1) + END
+
+    def case_with(name, *extensions, which=1, **more):
+        case(name, timed(with_behind(data, which, b''.join(extensions)), 20000), **more)
+    case_with('rule 19: matrices of a picture that begin with 8', loaded(EIGHT))
+    case_with('rule 19: an intra matrix of a picture that begins with 9', loaded(NINE))
+    case_with('rule 19: another one may', loaded(None, NINE))
+    case_with('rule 20: a chroma intra matrix that begins with 8', loaded(None, None, EIGHT))
+    case_with('rule 20: another chroma matrix', loaded(None, None, None, NINE))
+    case_with('rules 19 and 20: all matrices begin with 9', loaded(NINE, NINE, NINE, NINE))
+    case_with('rules 19 and 20: of the second picture, in two extensions', loaded(NINE), loaded(EIGHT, None, NINE), which=2)
+    case_with('rule 19: between other units', display(), loaded(NINE, EIGHT), bytes((0, 0, 1, 0xB2, 65)), loaded(None))
+    for which, kind in ((0, 'an I'), (1, 'a P'), (2, 'a B')):
+        three = small() + group(1) + one(I) + one(P, 2) + one(B, 1) + END
+        case('rule 32: extra information in %s picture' % kind, timed(with_extra(three, which, 255), 20000))
+    case('rule 32: no extra information', timed(with_extra(data, 1), 20000))
+    case('rule 32: two bytes of it, and a matrix, in a picture that breaks other rules', changed(timed(with_behind(
+        with_extra(data, 0, 1, 2), 1, loaded(NINE)), 20000), 'coding', chroma_type=0))
+
+
+def of_displays():
+    section('rule 39: sequence display extensions')
+
+    def case_of(name, *displays, **more):
+        data = b''.join(small() + d + group(1) + one(I) for d in displays) + END
+        case('rule 39: ' + name, timed(data, 20000), **more)
+    own, coloured = display(), display(colour=0x010101)
+    case_of('none', b'', b'')
+    case_of('the same behind each header', own, own)
+    case_of('with colours, the same', coloured, coloured)
+    case_of('behind the first header alone', own, b'')
+    case_of('behind the second header alone', b'', own)
+    for name, other in (('another video_format', display(4)), ('another width', display(width=17)),
+                        ('another height', display(height=17)), ('with colours', coloured)):
+        case_of(name, own, other)
+    case_of('other colours', coloured, display(colour=0x010102))
+    case_of('colours the first time alone', coloured, own)
+    case_of('each of three is held against the first', own, display(4), own)
+    case_of('one with a marker of 0 is none', own, display(marker=0))
+    case_of('one that is cut off is none', own, own[:8])
+    case_of('the first that reads counts', own, display(marker=0) + own + display(4))
+    case_of('other extensions are none', own, unit(0xB5, '0111', '0' * 28))
+    picture = with_behind(small() + group(1) + one(I), 1, own)
+    case('rule 39: behind the picture header', timed(picture + small() + own + group(1) + one(I) + END, 20000))
+    tall = timed(interlaced() + own + group(1) + one(I, rows=2) + interlaced() + group(1) + one(I, rows=2) + END, 20000)
+    case('rule 39: between slices', tall[:parts(tall)[-2][0]] + own + tall[parts(tall)[-2][0]:])
+    case('rule 39: without a picture', timed(small() + own + group(1) + one(I), 20000) + small() + END)
+    case('rule 39: with each call failing in turn', timed(small() + own + group(1) + one(I) + small() + group(1) + one(I) + END, 20000),
+         more=['each report', 'each output'])
+
+
 def of_all():
     section('stricter rules beside those of check')
     worst = changed(sequence(15, 1152, progressive=0, level=73, aspect=4, code=9, rate=0, buffer=113, intra=[9] + [8] * 63) + END,
@@ -173,5 +254,5 @@ def of_all():
     case('the same with each call failing in turn', data, more=['each report', 'each output'])
 
 
-for sections in (of_sizes, of_repeated, of_groups, of_headers, of_extensions, of_all):
+for sections in (of_sizes, of_repeated, of_groups, of_headers, of_extensions, of_matrices, of_displays, of_all):
     sections()

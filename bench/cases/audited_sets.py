@@ -10,6 +10,8 @@ dvd, of a sequence header:
 64  profile_and_level_indication is 72
 68  a warning: low_delay is 0, and progressive_sequence
 71  a warning: aspect_ratio_information 3 has a width of 704 or 720
+70  a warning, behind 71: in a later sequence the size, frame_rate_code and aspect_ratio_information are those of the first
+    header of the first sequence
 Of a group header:
 67  a warning: a sequence header stands between the last picture and it
 Of a picture:
@@ -73,6 +75,13 @@ def dvd_header(s):
     yield from named(71, ('aspect_ratio_information', [(3, 2)] if s.aspect == 3 and s.width not in (704, 720) else []))
 
 
+def like_header(s, first):
+    """What dvd tells of it beside the first header of the first sequence, where this is another one."""
+    if first:
+        yield from named(70, ('size', equal(size_of(s), size_of(first))), ('frame_rate_code', equal(s.code, first.code)),
+                         ('aspect_ratio_information', equal(s.aspect, first.aspect)))
+
+
 def dvb_header(s):
     """What dvb tells of it."""
     main, size = s.level not in HIGHER, size_of(s)
@@ -106,9 +115,12 @@ def atsc_header(s):
 # ---- the sets
 
 class Main:
-    """A set, in a sequence, and what its own rules tell of the headers in turn. Main has none; `silent` are the rules of
-    main that the set doesn't tell."""
+    """A set, in a sequence, and what its own rules tell of the headers in turn, beside the first header of the first
+    sequence, where this is another one. Main has none; `silent` are the rules of main that the set doesn't tell."""
     silent = ()
+
+    def __init__(self, first=None):
+        self.like = first
 
     def header(self, _):
         """Of a sequence header."""
@@ -127,13 +139,14 @@ class Dvd(Main):
     """What counts: a sequence header since the last picture, the fields since the last group header, and the B frames that
     ended in a row."""
 
-    def __init__(self):
+    def __init__(self, first=None):
+        super().__init__(first)
         self.headed, self.fields, self.b_frames = False, 0, 0
 
     def header(self, s):
         """As of dvd, and that it stands there."""
         self.headed = True
-        return dvd_header(s)
+        return *dvd_header(s), *like_header(s, self.like)
 
     def group(self):
         self.fields = 0

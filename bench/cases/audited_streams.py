@@ -195,7 +195,7 @@ def texts():
 
 
 def stops():
-    section('faults and limits: the report ends, and nothing of the piece is told, nor what waits')
+    section('faults and limits: nothing of the piece is told, nor what waits')
     each('a fault in the first piece', '= grey first 12', fault=('NotMpeg2', 96), comment='No sequence is told.')
     each('a fault in the first piece, behind other bytes', 'FF FF', '= grey first 12', fault=('NotMpeg2', 112))
     each('a fault in the second piece', '= predicted byte 79 52', fault=('VectorOutside', 630))
@@ -204,7 +204,7 @@ def stops():
     each('a fault in the first piece of a second sequence', '= predicted', '= grey first 12',
          fault=('NotMpeg2', 672 + 96))
     each('a fault in the second of three sequences', '= predicted', '05', '= grey byte 17 8C', '= grouped',
-         fault=('Unsupported', 680 + 141), comment='The report ends there.')
+         fault=('Unsupported', 680 + 141), comment='The third one is told behind it.')
     each('a fault in the second piece of a second sequence', '= grouped', '= predicted byte 79 52',
          fault=('VectorOutside', 480 + 630))
     case('a fault in the second sequence, where the first breaks rules', '= predicted byte 61 93', '= grey first 39',

@@ -8,7 +8,7 @@ import subprocess
 from bisect import bisect_left
 from collections import Counter
 
-from audited import report, texts
+from audited import report
 from audited_account import UNIT, Inflow, filled, rate_of, removals, removed
 from audited_records import RULES
 from pictures_writer import B, BOTTOM, END, I, P, TOP, group, sequence
@@ -280,7 +280,7 @@ def try_two(data, other):
     _, _, other_output = report(other, True)
     first, second = records(one_output), records(other_output)
     both = records(report(data + other, True)[2])
-    count = len(list(texts(data))) - 1
+    count = int(first[-1][1])
     hold(both[:-1] == first[:-1] + [moved(r, count, len(data)) for r in second[:-1]], 'two texts are told otherwise',
          data + other)
     sums = tuple(str(int(a) + int(b)) for a, b in zip(first[-1][1:], second[-1][1:]))
@@ -397,11 +397,23 @@ def try_header(header, rules):
     return Counter(rule_of(r) for r in own)
 
 
+def try_like(header, other):
+    """By dvd each of these is told of another sequence where it isn't that of the first one, and none of a like one."""
+    told = records(report(sequence(**header) + END + sequence(**other) + END + sequence(**header) + END, False, 'dvd')[2])
+    mine = [(r[1], r[5], int(r[6]), int(r[7])) for r in told if r[0] == 'warning' and rule_of(r) == 70]
+    names = {'size': lambda s: 10000 * s['width'] + s['height'], 'frame_rate_code': lambda s: s['code'],
+             'aspect_ratio_information': lambda s: s['aspect']}
+    assert mine == [('1', name, of(other), of(header)) for name, of in names.items() if of(other) != of(header)], (
+        header, other)
+
+
 def try_headers(count, seed):
     """Draws sequence headers. Answers how often each rule of the sets was broken."""
     draw, seen = random.Random(seed), Counter()
     for _ in range(count):
         header = drawn_header(draw)
+        try_like(header, {**drawn_header(draw), **{key: header[key] for key in ('width', 'height', 'code', 'aspect')
+                                                   if draw.random() < 0.5}})
         for rules in OWN:
             seen.update(try_header(header, rules))
     return {'rule %d' % rule: often for rule, often in seen.items()}

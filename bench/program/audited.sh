@@ -68,7 +68,7 @@ found() {
         END { for (i = 1; i <= k; i++) print keys[i] ", " n[keys[i]] " times" }' report.txt | head -12
 }
 
-others=$(ls ./*.m2v | sed 's/^..//; s/\.m2v$//' | grep -v -e dvd -e svcd -e disc_ -e own_ -e plain_)
+others=$(ls ./*.m2v | sed 's/^..//; s/\.m2v$//' | grep -v -e base_ -e dvd -e svcd -e disc_ -e own_ -e plain_)
 wrong=0
 for name in $others pal_svcd plain_pal own_rows; do found "$name" main || wrong=1; done
 for name in pal_dvd pal_dvd_wide ntsc_dvd ntsc_dvd_fields pal_svcd disc_pal disc_film own_frames own_fields own_film own_progressive; do
@@ -76,4 +76,7 @@ for name in pal_dvd pal_dvd_wide ntsc_dvd ntsc_dvd_fields pal_svcd disc_pal disc
 done
 for name in pal_dvd_wide pal_svcd disc_pal own_frames own_progressive; do found "$name" dvb || wrong=1; done
 for name in ntsc_dvd own_rows; do found "$name" atsc || wrong=1; done
+# real discs' streams, which stand in the repository
+cp "$here"/../streams/*.m2v .
+for name in base_pal base_ntsc_wide; do found "$name" dvd || wrong=1; done
 exit "$wrong"
