@@ -30,9 +30,9 @@ def changed(data, header, which=0, **elements):
     return number.to_bytes(len(data), 'big')
 
 
-def still(**more):
-    """A lawful sequence of two pictures."""
-    return timed(small(**more) + group(1) + one(I) + one(P, 1) + END, 20000)
+def still(*headers, **more):
+    """A sequence of two pictures behind these headers; where none are told, behind lawful ones."""
+    return timed(b''.join(headers or (small(**more), group(1))) + one(I) + one(P, 1) + END, 20000)
 
 
 def concealed_picture():
@@ -42,6 +42,7 @@ def concealed_picture():
 
 
 def woven(*pictures, **more):
+    """A sequence of these pictures, in fields."""
     return timed(interlaced(**more) + group(1) + b''.join(pictures) + END, 20000)
 
 

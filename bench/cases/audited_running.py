@@ -1,16 +1,11 @@
 """The cases of the rules of `audit` that run along a sequence: the order of headers, the rate at which bits arrive, delays, time
 codes, the parity of fields, and the end. For each a stream that breaks it alone, and one at its bound."""
 
-from audited_rules import changed
+from audited_rules import changed, still, woven
 from audited_streams import case, each, section
 from pictures_writer import B, BOTTOM, END, I, P, TOP, group, sequence
 from verdicts import Parser
 from verdicts_cases import WOVEN, interlaced, one, pair, small, timed, with_delay
-
-
-def still(*headers, **more):
-    """Two pictures behind these headers."""
-    return timed(b''.join(headers or (small(**more), group(1))) + one(I) + one(P, 1) + END, 20000)
 
 
 def of_order():
@@ -24,17 +19,17 @@ def of_order():
                           ('a group header behind both', (header, group(1), header, group(1)))):
         case('rule 22: ' + name, still(*headers))
     first = timed(header + group(1) + one(I) + one(P, 1), 20000)
-    case('rule 22: each before each group', first + still()[:-4] + group(0) + END[:0] + one(I, 0) + END)
+    case('rule 22: each before each group', first + still()[:-4] + group(0) + one(I, 0) + END)
     for name, headers in (('a sequence header', header), ('a group header', group(1)), ('both', header + group(1)),
                           ('two group headers', group(1) + group(1))):
         case('rule 22: %s behind the last picture' % name, first + headers + END)
     case('rule 22: a sequence without a picture', header + END, comment='Its header stands without a picture.')
-    each('rule 22: a group header too much, and then a fault', timed(header + group(1) + group(1) + one(I) + one(P, 5), 20000)
-         + END[:3] + b'\xb0', fault=('Forbidden', 8 * len(timed(header + group(1) + group(1) + one(I) + one(P, 5), 20000))),
+    whole = timed(header + group(1) + group(1) + one(I) + one(P, 5), 20000)
+    each('rule 22: a group header too much, and then a fault', whole + END[:3] + b'\xb0', fault=('Forbidden', 8 * len(whole)),
          comment='What is told at the end of a sequence is not told behind a fault.')
-    for name, kind, more in (('a B picture', B, {}), ('a P picture', P, {})):
+    for name, last in (('a B picture', one(B, 1)), ('a P picture', one(P, 3))):
         case('rule 23: the first picture behind a sequence header is ' + name, timed(
-            header + group(1) + one(I) + one(P, 2) + header + one(kind, 1 if kind == B else 3, **more) + END, 20000))
+            header + group(1) + one(I) + one(P, 2) + header + last + END, 20000))
     case('rule 23: a B picture behind a group header alone', timed(
         header + group(1) + one(I) + one(P, 1) + group(0) + one(B, 0) + one(I, 1) + END, 20000))
 
@@ -53,10 +48,9 @@ def of_arrivals():
     most = last_allowed(data)
     for name, delay in (('the last delay that the rate allows', most), ('the next one', most + 1), ('a delay of 65534', 65534)):
         case('rule 29: ' + name, with_delay(data, 1, delay))
-    long = with_delay(with_delay(still(small(), group(1)), 0, 65534), 1, 65534)
-    case('rule 29: two delays of 65534', long)
+    case('rule 29: two delays of 65534', with_delay(with_delay(data, 0, 65534), 1, 65534))
     case('rule 29: a delay of 65535 implies no rate', with_delay(data, 1, 65535))
-    case('rule 29: at twice the rate', with_delay(still(small(rate=200), group(1)), 1, most + 1))
+    case('rule 29: at twice the rate', with_delay(still(rate=200), 1, most + 1))
     exact = Parser(data).coded[1].delay
     for by in (-2, -1, 0, 1, 2):
         case('warning 54: a delay of %+d ticks' % by, with_delay(data, 1, exact + by))
@@ -97,10 +91,6 @@ def of_times():
     case('warning 55: five fields are two pictures or three', timed(pulled, 20000))
     case('warning 55: so three', changed(timed(pulled, 20000), 'group', 1, pictures=3))
     case('warning 55: and four', changed(timed(pulled, 20000), 'group', 1, pictures=4))
-
-
-def woven(*pictures, **more):
-    return timed(interlaced(**more) + group(1) + b''.join(pictures) + END, 20000)
 
 
 def of_parity():
