@@ -4,7 +4,7 @@ use Rattle.std.specs.Prelude.{nat_eq, is_some}
 use Rattle.std.proofs.lemmas.Bool.{both_ways, eqb-true, cond-true}
 use Rattle.m2v_bits.specs.Syntax.{seq, done, choose}
 use Rattle.m2v_bits.proofs.SyntaxLaws.{good}
-use Rattle.m2v_head.specs.declared.group.GroupInfo.{GroupInfo}
+use Rattle.m2v_model.specs.m2v_macroblock.m2v_head.declared.group.GroupInfo.{GroupInfo}
 use Rattle.m2v_model.specs.declared.state.Open.{Open}
 use Rattle.m2v_model.specs.declared.state.State.{State}
 use Rattle.m2v_model.specs.Units.{Units, unit_bits}
@@ -59,7 +59,7 @@ nothing_read : (st : State) (p : Part) (mid : Units) → unit_read st [] ≡ goo
 nothing_read st p mid e = let wrong = none_ends st (true, p) mid e in absurd cc
 
 -- where nothing or an end code stands, one part ends the stream
-final_only : {st z : State} {us rest : Units} {ps : List Part} → Ends st us ps z rest → Behind us → IsKnown st → (p : Part) × (ps ≡ p ∷ []) × IsFinal p
+pub final_only : {st z : State} {us rest : Units} {ps : List Part} → Ends st us ps z rest → Behind us → IsKnown st → (p : Part) × (ps ≡ p ∷ []) × IsFinal p
 final_only {st} {us = us} {rest = rest} (finish {p = p} e) b k = (p, refl, final_part st us rest p e)
 final_only {st} {us = []} (going {mid = mid} {p = p} e later) b k = absurd (nothing_read st p mid e)
 final_only {st} {us = u ∷ us} (going {mid = mid} {p = p} e later) b k = absurd (end_ends st u us mid p b k e)

@@ -4,7 +4,7 @@ use Rattle.std.specs.Prelude.{is_some}
 use Rattle.std.proofs.lemmas.Bool.{eqb-true}
 use Rattle.m2v_bits.specs.Syntax.{Rounds, seq, done, rule, repeated}
 use Rattle.m2v_bits.proofs.SyntaxLaws.{good}
-use Rattle.m2v_head.specs.declared.group.GroupInfo.{GroupInfo}
+use Rattle.m2v_model.specs.m2v_macroblock.m2v_head.declared.group.GroupInfo.{GroupInfo}
 use Rattle.m2v_model.specs.declared.state.Sequence.{Sequence}
 use Rattle.m2v_model.specs.declared.state.Open.{Open}
 use Rattle.m2v_model.specs.declared.state.FirstField.{FirstField}
@@ -58,7 +58,7 @@ pub record IsCut (changed : Bool) (units : Units) (s : Sequence) (shown : Pictur
   pub first : tree.state.first ≡ Some s
   pub beside : AreBeside changed 0 shown (pictures_in (events_from at_first no_frames tree.parts))
 
-stream_by : (tree : Sofar) (us rest : Units) → Rounds unit_round (record { state = at_first; parts = [] }) tree us rest → none_waits tree.state.waiting ≡ true → stream_at.Stands tree us rest
+pub stream_by : (tree : Sofar) (us rest : Units) → Rounds unit_round (record { state = at_first; parts = [] }) tree us rest → none_waits tree.state.waiting ≡ true → stream_at.Stands tree us rest
 unfolding stream_at stream_from units_from repeated seq rule done
 stream_by tree us rest h none = (tree, rest, h, (tt, rest, (none, refl), (refl, refl)))
 
@@ -200,7 +200,7 @@ group_events : (st : State) (store : Store) (g : GroupInfo) (ps : List Part) →
 unfolding events_from
 group_events st store g ps none = ap (λ (x : Option Open). pictures_in ((closed x store ++ group_header g ∷ []) ++ events_from (after st (group g)) (store_after st store (group g)) ps)) none
 
-ending_events : (st : State) (store : Store) → events_from st store (ending ∷ []) ≡ closed st.picture store ++ []
+pub ending_events : (st : State) (store : Store) → events_from st store (ending ∷ []) ≡ closed st.picture store ++ []
 unfolding events_from
 ending_events st store = refl
 

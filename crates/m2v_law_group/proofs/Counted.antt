@@ -2,9 +2,9 @@
 use Rattle.std.proofs.Common.{◌≡◌, ℕ, zero, suc, ◌≤◌, Bool, true, false, List, [], ◌∷◌, Option, Some, None, ◌⊎◌, inl, inr, refl, sym, ap, subst, ◌∙◌, arith}
 use Rattle.std.specs.Prelude.{nat_eq, nat_le, is_some, not, ◌&&◌, ◌||◌, if◌then◌else◌}
 use Rattle.std.proofs.lemmas.Bool.{cases_Bool, both_ways, eqb-true, le-ltb}
-use Rattle.m2v_head.specs.declared.group.GroupInfo.{GroupInfo}
-use Rattle.m2v_head.specs.declared.picture.PictureInfo.{PictureInfo}
-use Rattle.m2v_head.specs.declared.picture.PictureExtension.{PictureExtension}
+use Rattle.m2v_model.specs.m2v_macroblock.m2v_head.declared.group.GroupInfo.{GroupInfo}
+use Rattle.m2v_model.specs.m2v_macroblock.m2v_head.declared.picture.PictureInfo.{PictureInfo}
+use Rattle.m2v_model.specs.m2v_macroblock.m2v_head.declared.picture.PictureExtension.{PictureExtension}
 use Rattle.m2v_model.specs.declared.state.Open.{Open}
 use Rattle.m2v_model.specs.declared.state.FirstField.{FirstField}
 use Rattle.m2v_model.specs.declared.state.State.{State}
@@ -38,11 +38,11 @@ pub record Fits (changed fresh : Bool) (anchors kind : ℕ) : Type 0 where
 
 -- ---- Booleans
 
-or_true : (b : Bool) → (b || true) ≡ true
+pub or_true : (b : Bool) → (b || true) ≡ true
 or_true true = refl
 or_true false = refl
 
-and_false : (b : Bool) → (b && false) ≡ false
+pub and_false : (b : Bool) → (b && false) ≡ false
 and_false true = refl
 and_false false = refl
 
@@ -76,7 +76,7 @@ made second headers dropped references info extension = record {
   crowded_row = 0;
 }
 
-same_begun : (w c : State) (info : PictureInfo) (extension : PictureExtension) → w.waiting ≡ c.waiting → w.headers_only ≡ c.headers_only → drops w info.kind ≡ drops c info.kind
+pub same_begun : (w c : State) (info : PictureInfo) (extension : PictureExtension) → w.waiting ≡ c.waiting → w.headers_only ≡ c.headers_only → drops w info.kind ≡ drops c info.kind
     → references_for w info.kind extension.structure ≡ references_for c info.kind extension.structure → opened w info extension ≡ opened c info extension
 same_begun w c info extension waits headers dropped references =
     ap (λ (f : Option FirstField). made (is_some f) w.headers_only (drops w info.kind) (references_for w info.kind extension.structure) info extension) waits
@@ -85,13 +85,13 @@ same_begun w c info extension waits headers dropped references =
     ∙ ap (λ (l : List Bool). made (is_some c.waiting) c.headers_only (drops c info.kind) l info extension) references
 
 -- whether a picture is dropped, and its references, by the numbers that they go by
-abbrev drops_by : ℕ → Bool → ℕ → Bool
+abbrev pub drops_by : ℕ → Bool → ℕ → Bool
 drops_by anchors closed kind = is_b kind && not (nat_le 2 anchors || (nat_eq anchors 1 && closed))
 
 abbrev forward_by : ℕ → Bool → ℕ → ℕ → ℕ → Bool
 forward_by anchors waits kind structure field = (nat_eq kind 2 && (nat_le 1 anchors || (waits && not (nat_eq structure field)))) || (is_b kind && nat_le 2 anchors)
 
-abbrev references_by : ℕ → Bool → ℕ → ℕ → List Bool
+abbrev pub references_by : ℕ → Bool → ℕ → ℕ → List Bool
 references_by anchors waits kind structure =
     forward_by anchors waits kind structure 1 ∷ forward_by anchors waits kind structure 2 ∷ (is_b kind && nat_le 1 anchors) ∷ (is_b kind && nat_le 1 anchors) ∷ []
 
@@ -150,11 +150,11 @@ open_for_b fresh closed waiting changed info extension (inr (inr h)) fits due b 
         let may = last_part (not (is_frame extension)) (not (nat_eq extension.structure g.structure)) (may_follow g.kind info.kind) due in
         not_three f.kind info.kind anchor is_third (subst (λ (x : FirstField). may_follow x.kind info.kind ≡ true) same may)
 
-early_references : (whole : ℕ) (waits b : Bool) (kind structure : ℕ) → is_b kind ≡ b → b ≡ false → nat_le 1 whole ≡ true → references_by whole waits kind structure ≡ references_by 1 waits kind structure
+pub early_references : (whole : ℕ) (waits b : Bool) (kind structure : ℕ) → is_b kind ≡ b → b ≡ false → nat_le 1 whole ≡ true → references_by whole waits kind structure ≡ references_by 1 waits kind structure
 early_references whole waits true kind structure e off some = absurd cc
 early_references whole waits false kind structure e off some = rw (e, some) refl
 
-early_drops : (whole cut : ℕ) (group own b : Bool) (kind : ℕ) → is_b kind ≡ b → b ≡ false → drops_by whole group kind ≡ drops_by cut own kind
+pub early_drops : (whole cut : ℕ) (group own b : Bool) (kind : ℕ) → is_b kind ≡ b → b ≡ false → drops_by whole group kind ≡ drops_by cut own kind
 early_drops whole cut group own true kind e off = absurd cc
 early_drops whole cut group own false kind e off = rw e refl
 
@@ -223,12 +223,12 @@ waiting_by ends info extension = if ends then None else Some (record { kind = in
 stays_two : (n : ℕ) → 2 ≤ n → one_anchor_more n ≡ 2
 stays_two n le = rw (le-ltb n 2 le) refl
 
-more_than_none : (n : ℕ) → nat_le 1 (one_anchor_more n) ≡ true
+pub more_than_none : (n : ℕ) → nat_le 1 (one_anchor_more n) ≡ true
 more_than_none zero = refl
 more_than_none (suc zero) = refl
 more_than_none (suc (suc n)) = ap (nat_le 1) (stays_two (suc (suc n)) (omega arith))
 
-more_than_one : (n : ℕ) → nat_le 1 n ≡ true → one_anchor_more n ≡ 2
+pub more_than_one : (n : ℕ) → nat_le 1 n ≡ true → one_anchor_more n ≡ 2
 more_than_one zero e = absurd cc
 more_than_one (suc zero) e = refl
 more_than_one (suc (suc n)) e = stays_two (suc (suc n)) (omega arith)

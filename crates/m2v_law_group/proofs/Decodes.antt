@@ -34,12 +34,12 @@ use Rattle.m2v_law_group.proofs.Law.{skip, Parted, CutOf, cut_of}
 -- ---- what was read of the whole
 
 -- the units of a stream, read to their end
-record ReadWhole (us : Units) (tree : Sofar) : Type 0 where
-  rest : Units
-  ends : Ends at_first us tree.parts tree.state rest
-  paired : none_waits tree.state.waiting ≡ true
+pub record ReadWhole (us : Units) (tree : Sofar) : Type 0 where
+  pub rest : Units
+  pub ends : Ends at_first us tree.parts tree.state rest
+  pub paired : none_waits tree.state.waiting ≡ true
 
-read_whole : (us rest : Units) (tree : Sofar) → stream_at.Stands tree us rest → ReadWhole us tree
+pub read_whole : (us rest : Units) (tree : Sofar) → stream_at.Stands tree us rest → ReadWhole us tree
 unfolding stream_at stream_from units_from repeated seq rule done
 read_whole us rest tree h =
     let x = h.0 in
@@ -130,7 +130,7 @@ record IsChosen (count : ℕ) (g : List ℕ) (later : Units) : Type 0 where
   other : (rs : Units) → Behind rs → OtherFirst (ds ++ rs)
   next : Next (1 + group_headers own) count ds
 
-end_other : (rs : Units) → Behind rs → OtherFirst rs
+pub end_other : (rs : Units) → Behind rs → OtherFirst rs
 unfolding is_end
 end_other [] b = tt
 end_other (u ∷ rs) b = ap (λ (n : ℕ). nat_eq n 0x00) (eqb-true (value_of u) 0xB7 b)

@@ -1,20 +1,20 @@
 -- What stands in headers at known places, and group headers whose last two bits are others.
 use Rattle.std.proofs.Common.{◌≡◌, ℕ, ◌/◌, ◌%◌, ◌≤◌, Bool, true, false, List, [], ◌∷◌, ◌++◌, length, take, drop, Some, refl, sym, ap, subst, ◌∙◌, append_assoc, arith}
-use Rattle.std.specs.Prelude.{◌==◌}
+use Rattle.std.specs.Prelude.{◌==◌, nat_eq, not, ◌&&◌, ◌||◌, Option}
 use Rattle.std.proofs.lemmas.List.{length-append, take_at, drop_at}
 use Rattle.m2v_bits.specs.Bits.{bits_of, bits, all_zero}
 use Rattle.m2v_bits.specs.Syntax.{seq, here, rule, done, renamed}
 use Rattle.m2v_bits.specs.Leaves.{bits_at, end_at}
 use Rattle.m2v_bits.specs.Elements as elements
 use Rattle.m2v_bits.proofs.Bits.{length-bits_of, bits_of-mod}
-use Rattle.m2v_head.specs.declared.group.GroupInfo.{GroupInfo}
-use Rattle.m2v_head.specs.declared.picture.PictureInfo.{PictureInfo}
-use Rattle.m2v_head.specs.declared.picture.PictureExtension.{PictureExtension}
-use Rattle.m2v_head.specs.Elements.{Header, number_at, flag_at, marker_at}
-use Rattle.m2v_head.specs.Headers.{kind_at, picture_at, picture_extension_at, group_at}
+use Rattle.m2v_model.specs.m2v_macroblock.m2v_head.declared.group.GroupInfo.{GroupInfo}
+use Rattle.m2v_model.specs.m2v_macroblock.m2v_head.declared.picture.PictureInfo.{PictureInfo}
+use Rattle.m2v_model.specs.m2v_macroblock.m2v_head.declared.picture.PictureExtension.{PictureExtension}
+use Rattle.m2v_model.specs.m2v_macroblock.m2v_head.Elements.{Header, number_at, flag_at, marker_at}
+use Rattle.m2v_model.specs.m2v_macroblock.m2v_head.Headers.{kind_at, picture_at, picture_extension_at, group_at}
 use Rattle.m2v_model.specs.Units.{body}
-use Rattle.m2v_model.specs.Looking.{number_from, look}
-use Rattle.m2v_model.specs.Headers.{whole_header, picture_in, picture_extension_in, group_in, f_code_at}
+use Rattle.m2v_model.specs.Looking.{number_from, look, passes}
+use Rattle.m2v_model.specs.Headers.{whole_header, picture_in, is_structure, picture_extension_in, group_in, f_code_at}
 use Rattle.m2v_model.specs.Headers as looks
 use Rattle.m2v_dec_unit.proofs.Further.{skip_more, number_is, id_skips, some_is, f_codes_ahead}
 use Rattle.m2v_law_group.specs.Groups.{with_broken_link, broken_header}
@@ -66,6 +66,22 @@ structure_seen progressive info e t end h =
     let l3 = l2.3 in
     let same : l3.1 ≡ t = l3.2.1 ∙ l2.2.1 ∙ codes_stay info.kind h.2.0 l1.0 h.2.1 l1.1 l1.2 ∙ h.2.2.1 in
     subst (λ (x : List Bool). number_from 22 2 x ≡ Some h.0.structure) same (extension_seen h.0 l3.1 h.1 l3.3) ∙ ap (λ (x : PictureExtension). Some x.structure) (sym h.3.3.0)
+
+-- picture_structure isn't 0
+pub structure_some : (progressive : Bool) (info : PictureInfo) (e : PictureExtension) (t end : List Bool) → (whole_header (picture_extension_in progressive info)).Stands e t end → nat_eq e.structure 0 ≡ false
+unfolding whole_header picture_extension_in renamed seq here look rule done
+structure_some progressive info e t end h =
+    let l1 = h.2.3 in
+    let l2 = l1.3 in
+    let l3 = l2.3 in
+    let at : l1.1 ≡ t = codes_stay info.kind h.2.0 l1.0 h.2.1 l1.1 l1.2 ∙ h.2.2.1 in
+    let seen : l2.0 ≡ Some e.structure = l2.2.0 ∙ ap (number_from 22 2) at ∙ structure_seen progressive info e t end h in
+    let tested : passes (is_structure progressive) (Some e.structure) ≡ true = subst (λ (o : Option ℕ). passes (is_structure progressive) o ≡ true) seen l3.2.0 in
+    first_off (nat_eq e.structure 0) (not progressive || nat_eq e.structure 3) tested
+  where
+    first_off : (a b : Bool) → (not a && b) ≡ true → a ≡ false
+    first_off true b e = absurd cc
+    first_off false b e = refl
 
 -- ---- group headers
 

@@ -2,15 +2,15 @@
 use Rattle.std.proofs.Common.{◌≡◌, ℕ, Bool, true, false, List, [], ◌∷◌, ◌++◌, inl, inr, refl, sym, ap, subst, ◌∙◌, append_assoc}
 use Rattle.std.specs.Prelude.{nat_eq, ◌||◌, ◌&&◌, not}
 use Rattle.m2v_bits.specs.Syntax.{seq, done, rule, choose, renamed, repeated, Rounds, last, more}
-use Rattle.m2v_vlc.specs.declared.values.MbType.{MbType}
-use Rattle.m2v_vlc.specs.Tables.{type_i}
-use Rattle.m2v_vlc.specs.Codes.{code_at}
-use Rattle.m2v_plane.specs.Samples.{Samples}
-use Rattle.m2v_macro.specs.declared.values.MacroSyntax.{MacroSyntax}
-use Rattle.m2v_macro.specs.declared.values.SliceState.{SliceState}
-use Rattle.m2v_macro.specs.declared.values.PictureContext.{PictureContext}
-use Rattle.m2v_macro.specs.Macros.{kind_at, allowed_at, step_at, macro_at}
-use Rattle.m2v_macro.specs.States.{skips, may_skip}
+use Rattle.m2v_model.specs.m2v_macroblock.m2v_vlc.declared.values.MbType.{MbType}
+use Rattle.m2v_model.specs.m2v_macroblock.m2v_vlc.Tables.{type_i}
+use Rattle.m2v_model.specs.m2v_macroblock.m2v_vlc.Codes.{code_at}
+use Rattle.m2v_order.specs.m2v_plane.Samples.{Samples}
+use Rattle.m2v_model.specs.m2v_macroblock.m2v_macro.declared.values.MacroSyntax.{MacroSyntax}
+use Rattle.m2v_model.specs.m2v_macroblock.m2v_macro.declared.values.SliceState.{SliceState}
+use Rattle.m2v_model.specs.m2v_macroblock.m2v_macro.declared.values.PictureContext.{PictureContext}
+use Rattle.m2v_model.specs.m2v_macroblock.m2v_macro.Macros.{kind_at, allowed_at, step_at, macro_at}
+use Rattle.m2v_model.specs.m2v_macroblock.m2v_macro.States.{skips, may_skip}
 use Rattle.m2v_model.specs.m2v_macroblock.Macroblocks.{Macroblock, after_macroblock}
 use Rattle.m2v_model.specs.m2v_macroblock.Predictions.{prediction_of}
 use Rattle.m2v_model.specs.declared.setup.SliceSetup.{SliceSetup}

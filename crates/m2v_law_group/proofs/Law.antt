@@ -4,7 +4,7 @@ use Rattle.std.specs.Prelude.{nat_eq, is_some, ◌||◌}
 use Rattle.std.proofs.lemmas.Bool.{both_ways, eqb-true}
 use Rattle.m2v_bits.specs.Syntax.{done, choose}
 use Rattle.m2v_bits.proofs.SyntaxLaws.{good, good_is}
-use Rattle.m2v_head.specs.declared.group.GroupInfo.{GroupInfo}
+use Rattle.m2v_model.specs.m2v_macroblock.m2v_head.declared.group.GroupInfo.{GroupInfo}
 use Rattle.m2v_model.specs.declared.fault.FaultKind.{FaultKind}
 use Rattle.m2v_model.specs.declared.state.Sequence.{Sequence}
 use Rattle.m2v_model.specs.declared.state.Open.{Open}

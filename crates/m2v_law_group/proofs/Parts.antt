@@ -3,9 +3,9 @@ use Rattle.std.proofs.Common.{◌≡◌, ℕ, Bool, true, false, List, ◌∷◌
 use Rattle.std.specs.Prelude.{nat_eq, nat_le, is_some, ◌-◌}
 use Rattle.std.proofs.lemmas.Bool.{cases_Bool, both_ways, eqb-true}
 use Rattle.m2v_bits.specs.Syntax.{done, seq, here, rule, choose}
-use Rattle.m2v_head.specs.declared.group.GroupInfo.{GroupInfo}
-use Rattle.m2v_head.specs.declared.picture.PictureInfo.{PictureInfo}
-use Rattle.m2v_head.specs.declared.picture.PictureExtension.{PictureExtension}
+use Rattle.m2v_model.specs.m2v_macroblock.m2v_head.declared.group.GroupInfo.{GroupInfo}
+use Rattle.m2v_model.specs.m2v_macroblock.m2v_head.declared.picture.PictureInfo.{PictureInfo}
+use Rattle.m2v_model.specs.m2v_macroblock.m2v_head.declared.picture.PictureExtension.{PictureExtension}
 use Rattle.m2v_model.specs.declared.fault.FaultKind.{FaultKind}
 use Rattle.m2v_model.specs.declared.state.Sequence.{Sequence}
 use Rattle.m2v_model.specs.declared.state.Open.{Open}
@@ -44,14 +44,14 @@ pub data PartOf (u : List ℕ) (us : Units) : Part → Units → Type 0 where
 
 -- ---- the extension behind a header
 
-record HasExtension {V : Type 0} (s : InUnit V) (e : V) (t rest : Units) : Type 0 where
-  v : List ℕ
-  is : t ≡ v ∷ rest
-  value : nat_eq (value_of v) 0xB5 ≡ true
-  end : List Bool
-  stands : s.Stands e (body v) end
+pub record HasExtension {V : Type 0} (s : InUnit V) (e : V) (t rest : Units) : Type 0 where
+  pub v : List ℕ
+  pub is : t ≡ v ∷ rest
+  pub value : nat_eq (value_of v) 0xB5 ≡ true
+  pub end : List Bool
+  pub stands : s.Stands e (body v) end
 
-extension_there : {V : Type 0} (own : ℕ) (v : Option (List ℕ)) (next : ℕ) (s : InUnit V) (e : V) (t m rest : Units) → Next v t m → (extension_behind own v next s).Stands e m rest → HasExtension s e t rest
+pub extension_there : {V : Type 0} (own : ℕ) (v : Option (List ℕ)) (next : ℕ) (s : InUnit V) (e : V) (t m rest : Units) → Next v t m → (extension_behind own v next s).Stands e m rest → HasExtension s e t rest
 unfolding extension_behind extension_in id_at refuse choose seq rule inside
 extension_there own None next s e t m rest n h = absurd h
 extension_there own (Some v) next s e t m rest n (inl h) =

@@ -248,7 +248,7 @@ reads_both ready changed fresh k w c sw sc (u ∷ us) mid p ps b fit e =
 
 -- ---- units
 
-told_then : (changed : Bool) (k m n : ℕ) (es fs ds gs : Events) → ToldBeside changed k m es fs → ToldBeside changed m n ds gs → ToldBeside changed k n (es ++ ds) (fs ++ gs)
+pub told_then : (changed : Bool) (k m n : ℕ) (es fs ds gs : Events) → ToldBeside changed k m es fs → ToldBeside changed m n ds gs → ToldBeside changed k n (es ++ ds) (fs ++ gs)
 told_then changed k m n es fs ds gs h g ps qs b =
     let left : pictures_in (es ++ ds) ++ ps ≡ pictures_in es ++ (pictures_in ds ++ ps) = ap (λ (l : Pictures). l ++ ps) (pictures_in-append es ds) ∙ append_assoc (pictures_in es) (pictures_in ds) ps in
     let right : pictures_in (fs ++ gs) ++ qs ≡ pictures_in fs ++ (pictures_in gs ++ qs) = ap (λ (l : Pictures). l ++ qs) (pictures_in-append fs gs) ∙ append_assoc (pictures_in fs) (pictures_in gs) qs in

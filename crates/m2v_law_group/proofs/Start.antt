@@ -5,7 +5,7 @@ use Rattle.std.specs.Bool.{beq}
 use Rattle.std.proofs.lemmas.Bool.{cases_Bool, both_ways, eqb-true, cond-true}
 use Rattle.m2v_bits.specs.Syntax.{done, seq, rule, choose}
 use Rattle.m2v_bits.proofs.SyntaxLaws.{good}
-use Rattle.m2v_head.specs.declared.group.GroupInfo.{GroupInfo}
+use Rattle.m2v_model.specs.m2v_macroblock.m2v_head.declared.group.GroupInfo.{GroupInfo}
 use Rattle.m2v_model.specs.declared.state.Sequence.{Sequence}
 use Rattle.m2v_model.specs.declared.state.FirstField.{FirstField}
 use Rattle.m2v_model.specs.declared.state.State.{State}
@@ -31,7 +31,7 @@ use Rattle.m2v_law_group.proofs.Heads.{broken_stands}
 
 -- ---- the sequence header
 
-none_is : (o : Option FirstField) → none_waits o ≡ true → o ≡ None
+pub none_is : (o : Option FirstField) → none_waits o ≡ true → o ≡ None
 none_is None e = refl
 none_is (Some f) e = absurd cc
 
@@ -70,11 +70,11 @@ sequence_at a start u us mid p h =
       l6.2.0,
     )
 
-sequence_back : (st : State) (start : ℕ) (u : List ℕ) (us mid : Units) (p : Part) → is_sequence u ≡ true → (sequence_unit st start u).Stands p us mid → (known_unit st start (value_of u) u).Stands (true, p) us mid
+pub sequence_back : (st : State) (start : ℕ) (u : List ℕ) (us mid : Units) (p : Part) → is_sequence u ≡ true → (sequence_unit st start u).Stands p us mid → (known_unit st start (value_of u) u).Stands (true, p) us mid
 unfolding known_unit choose
 sequence_back st start u us mid p on h = inl (on, onward_back _ p us mid h)
 
-known_sequence : (st : State) (start : ℕ) (u : List ℕ) (us mid : Units) (p : Part) → is_sequence u ≡ true → (known_unit st start (value_of u) u).Stands (true, p) us mid → (sequence_unit st start u).Stands p us mid
+pub known_sequence : (st : State) (start : ℕ) (u : List ℕ) (us mid : Units) (p : Part) → is_sequence u ≡ true → (known_unit st start (value_of u) u).Stands (true, p) us mid → (sequence_unit st start u).Stands p us mid
 unfolding known_unit choose
 known_sequence st start u us mid p on (inl h) = onward_at _ p us mid h.1
 known_sequence st start u us mid p on (inr h) = absurd (both_ways _ h.0 on)

@@ -1,9 +1,9 @@
 -- One part more of the whole stream and of a cut.
 use Rattle.std.proofs.Common.{◌≡◌, ℕ, Bool, true, false, List, [], ◌∷◌, ◌++◌, Option, Some, inl, inr, refl, sym, ap, subst, ◌∙◌, append-nil}
 use Rattle.std.specs.Prelude.{is_some, ◌||◌}
-use Rattle.m2v_head.specs.declared.group.GroupInfo.{GroupInfo}
-use Rattle.m2v_head.specs.declared.picture.PictureInfo.{PictureInfo}
-use Rattle.m2v_head.specs.declared.picture.PictureExtension.{PictureExtension}
+use Rattle.m2v_model.specs.m2v_macroblock.m2v_head.declared.group.GroupInfo.{GroupInfo}
+use Rattle.m2v_model.specs.m2v_macroblock.m2v_head.declared.picture.PictureInfo.{PictureInfo}
+use Rattle.m2v_model.specs.m2v_macroblock.m2v_head.declared.picture.PictureExtension.{PictureExtension}
 use Rattle.m2v_model.specs.declared.state.Sequence.{Sequence}
 use Rattle.m2v_model.specs.declared.state.Open.{Open}
 use Rattle.m2v_model.specs.declared.state.FirstField.{FirstField}
@@ -72,14 +72,14 @@ pub record Stepped (ready changed fresh : Bool) (k : ℕ) (w c : State) (sw sc :
 
 -- ---- part by part
 
-told_none : (changed : Bool) (k : ℕ) → ToldBeside changed k k [] []
+pub told_none : (changed : Bool) (k : ℕ) → ToldBeside changed k k [] []
 told_none changed k ps qs h = h
 
-closes_told : (changed : Bool) (k : ℕ) (w c : State) (sw sc : Store) → AreHeld changed k c.anchors c.waiting w.picture c.picture sw sc → ToldBeside changed k c.anchors (closed w.picture sw) (closed c.picture sc)
+pub closes_told : (changed : Bool) (k : ℕ) (w c : State) (sw sc : Store) → AreHeld changed k c.anchors c.waiting w.picture c.picture sw sc → ToldBeside changed k c.anchors (closed w.picture sw) (closed c.picture sc)
 closes_told changed k w c sw sc h ps qs b = closed_beside changed k c.anchors c.waiting w.picture c.picture sw sc h ps qs b
 
 -- an event that is no picture, behind the picture that is open
-told_more : (changed : Bool) (k next : ℕ) (es fs ds gs : Events) → pictures_in ds ≡ [] → pictures_in gs ≡ [] → ToldBeside changed k next es fs → ToldBeside changed k next (es ++ ds) (fs ++ gs)
+pub told_more : (changed : Bool) (k next : ℕ) (es fs ds gs : Events) → pictures_in ds ≡ [] → pictures_in gs ≡ [] → ToldBeside changed k next es fs → ToldBeside changed k next (es ++ ds) (fs ++ gs)
 told_more changed k next es fs ds gs d g h ps qs b =
     let left : pictures_in (es ++ ds) ≡ pictures_in es = pictures_in-append es ds ∙ ap (λ (l : Pictures). pictures_in es ++ l) d ∙ append-nil (pictures_in es) in
     let right : pictures_in (fs ++ gs) ≡ pictures_in fs = pictures_in-append fs gs ∙ ap (λ (l : Pictures). pictures_in fs ++ l) g ∙ append-nil (pictures_in fs) in
@@ -89,7 +89,7 @@ begin_alike : (changed : Bool) (w c : State) (info : PictureInfo) (extension : P
 begin_alike changed w c info extension true h = inr h
 begin_alike changed w c info extension false h = inl h
 
-linked : (ends : Bool) (info : PictureInfo) (extension : PictureExtension) (f : FirstField) → waiting_by ends info extension ≡ Some f → f.kind ≡ info.kind
+pub linked : (ends : Bool) (info : PictureInfo) (extension : PictureExtension) (f : FirstField) → waiting_by ends info extension ≡ Some f → f.kind ≡ info.kind
 linked true info extension f e = absurd cc
 linked false info extension f e = let same : record { kind = info.kind; structure = extension.structure } ≡ f = cc in ap (λ (x : FirstField). x.kind) (sym same)
 

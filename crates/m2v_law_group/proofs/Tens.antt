@@ -335,7 +335,7 @@ quiet {st} {z} (step {p = p} {ps = ps} r later) store e n =
 
 -- ---- what runs leave as it was
 
-first_stays : (st : State) (p : Part) (f : Sequence) → st.first ≡ Some f → (after st p).first ≡ Some f
+pub first_stays : (st : State) (p : Part) (f : Sequence) → st.first ≡ Some f → (after st p).first ≡ Some f
 unfolding after
 first_stays st (sequence s) f e = ap (λ (x : Option Sequence). Some (first_or x s)) e
 first_stays st (group g) f e = e

@@ -23,7 +23,7 @@ swap (x ∷ w) a b c v d s t zero lt = swap_here x w a b c v d s t
 swap (x ∷ w) a b c v d s t (suc i) lt = swap w a b c v d s t i (omega arith)
 
 -- units before others that begin with the same three bytes
-are_swapped : (us vs ws : Units) (a b c v d : ℕ) (s t : List ℕ) → joined vs ≡ a ∷ b ∷ c ∷ v ∷ s → joined ws ≡ a ∷ b ∷ c ∷ d ∷ t → AreUnits ws → AreUnits (us ++ vs) → AreUnits (us ++ ws)
+pub are_swapped : (us vs ws : Units) (a b c v d : ℕ) (s t : List ℕ) → joined vs ≡ a ∷ b ∷ c ∷ v ∷ s → joined ws ≡ a ∷ b ∷ c ∷ d ∷ t → AreUnits ws → AreUnits (us ++ vs) → AreUnits (us ++ ws)
 are_swapped [] vs ws a b c v d s t ev ew w h = w
 are_swapped (u ∷ us) vs ws a b c v d s t ev ew w h = (
   h.0,
@@ -55,12 +55,12 @@ third_off : (x y n : ℕ) (w : List ℕ) → nat_eq n 1 ≡ false → begins_cod
 third_off x y n [] e = refl
 third_off x y n (v ∷ w) e = rw (e, and_off (nat_eq y 0)) (and_off (nat_eq x 0))
 
-second_off : (x n : ℕ) (w : List ℕ) → nat_eq n 0 ≡ false → begins_code (x ∷ n ∷ w) ≡ false
+pub second_off : (x n : ℕ) (w : List ℕ) → nat_eq n 0 ≡ false → begins_code (x ∷ n ∷ w) ≡ false
 second_off x n [] e = refl
 second_off x n (y ∷ []) e = refl
 second_off x n (y ∷ v ∷ w) e = rw e (and_off (nat_eq x 0))
 
-first_off : (n : ℕ) (w : List ℕ) → nat_eq n 0 ≡ false → begins_code (n ∷ w) ≡ false
+pub first_off : (n : ℕ) (w : List ℕ) → nat_eq n 0 ≡ false → begins_code (n ∷ w) ≡ false
 first_off n [] e = refl
 first_off n (x ∷ []) e = refl
 first_off n (x ∷ y ∷ []) e = refl
@@ -97,15 +97,15 @@ are_changed us vs (a ∷ b ∷ c ∷ d ∷ e ∷ f ∷ g ∷ []) le h own = absu
 
 -- ---- the end code
 
-code_are : AreUnits (end_code ∷ [])
+pub code_are : AreUnits (end_code ∷ [])
 code_are = (omega arith, refl, λ i le lt. absurd (omega arith), tt)
 
-record CodeBytes (y : List ℕ) : Type 0 where
-  value : ℕ
-  rest : List ℕ
-  is : y ≡ 0 ∷ 0 ∷ 1 ∷ value ∷ rest
+pub record CodeBytes (y : List ℕ) : Type 0 where
+  pub value : ℕ
+  pub rest : List ℕ
+  pub is : y ≡ 0 ∷ 0 ∷ 1 ∷ value ∷ rest
 
-code_bytes : (y : List ℕ) → begins_code y ≡ true → CodeBytes y
+pub code_bytes : (y : List ℕ) → begins_code y ≡ true → CodeBytes y
 code_bytes [] h = absurd cc
 code_bytes (a ∷ []) h = absurd cc
 code_bytes (a ∷ b ∷ []) h = absurd cc
@@ -132,7 +132,7 @@ end_here x (y ∷ z ∷ []) h none = elim (cases_Bool (begins_code (x ∷ y ∷ 
     three x y z v w e = ap (take 3) e
 end_here x (y ∷ z ∷ v ∷ w) h none = h
 
-end_clear : (w : List ℕ) (i : ℕ) → i < length w → begins_code (drop i w) ≡ false → EndClear w → begins_code (drop i (w ++ end_code)) ≡ false
+pub end_clear : (w : List ℕ) (i : ℕ) → i < length w → begins_code (drop i w) ≡ false → EndClear w → begins_code (drop i (w ++ end_code)) ≡ false
 end_clear [] i lt h none = absurd (omega arith)
 end_clear (x ∷ w) zero lt h none = end_here x w h (λ e. none [] e)
 end_clear (x ∷ w) (suc i) lt h none = end_clear w i (omega arith) h (λ front e. none (x ∷ front) (ap (λ (l : List ℕ). x ∷ l) e))

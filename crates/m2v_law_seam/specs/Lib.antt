@@ -1,0 +1,10 @@
+pub mod Spans
+pub mod Seams
+pub mod Strands
+pub mod Faults
+pub mod Mending
+pub mod Told
+pub mod Mends
+pub mod Seam
+pub mod Reading
+pub mod Worked
