@@ -14,9 +14,9 @@ use Rattle.m2v_plane.proofs.RawVideo.{length-shown}
 use Rattle.m2v_set.specs.Numbers.{dims_of}
 use Rattle.m2v_slice.specs.Books.{Book, job_at, no_job}
 use Rattle.m2v_slice.specs.Conditions.{IsBook}
-use Rattle.m2v_law_headline.specs.m2v_enc_stream.Streams.{frame_of, frame_or, anchor_frame}
+use Rattle.m2v_law_shown.specs.m2v_enc_stream.Streams.{frame_of, frame_or, anchor_frame}
 use Rattle.m2v_encode.specs.Groups.{all_coded, frames_shown, group_shown, anchor_behind}
-use Rattle.m2v_law_headline.proofs.m2v_enc_stream.Anchors.{anchor_is}
+use Rattle.m2v_law_shown.proofs.m2v_enc_stream.Anchors.{anchor_is}
 
 -- ---- the last anchor
 

@@ -20,8 +20,8 @@ use Rattle.m2v_order.proofs.Orders.{frames_split, frames_one}
 use Rattle.m2v_slice.specs.Books.{Book, job_at, no_job, has_lines}
 use Rattle.m2v_slice.specs.Conditions.{IsBook}
 use Rattle.m2v_slice.proofs.Groups.{passes_of}
-use Rattle.m2v_law_headline.specs.m2v_enc_stream.Streams.{picture_with}
-use Rattle.m2v_law_headline.proofs.m2v_law_shown.Only.{Ascends, ascends}
+use Rattle.m2v_law_shown.specs.m2v_enc_stream.Streams.{picture_with}
+use Rattle.m2v_law_shown.proofs.Only.{Ascends, ascends}
 
 -- ---- numbers in order
 

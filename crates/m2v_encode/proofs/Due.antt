@@ -17,7 +17,7 @@ use Rattle.m2v_order.proofs.Queues.{grouped, due_is, turn_is}
 use Rattle.m2v_encode.specs.declared.answer.EncodeError.{EncodeError}
 use Rattle.m2v_encode.specs.declared.answer.EncodeError.TheVariants.{Read, Write, ShortFrame, NoFrames, TooManyFrames, Memory}
 use Rattle.m2v_encode.specs.Steps.{ReadStops, FrameStops}
-use Rattle.m2v_law_headline.proofs.m2v_enc_stream.Queues.{before_some}
+use Rattle.m2v_law_shown.proofs.m2v_enc_stream.Queues.{before_some}
 
 pub some_bytes : (d : Dims) → IsSize d → 0 < frame_bytes d
 some_bytes d is = let some : 0 < d.width * d.height = mul-pos (omega (arith, is.wide)) (omega (arith, is.tall)) in omega (arith, some)

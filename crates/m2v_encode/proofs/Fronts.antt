@@ -12,8 +12,8 @@ use Rattle.m2v_set.specs.Rules.{Passes}
 use Rattle.m2v_order.specs.Groups.{Queue, Group, opening, next_intra, is_due, group_size, group_of, after_push, after_end, after_group, followed, IsSoundQueue}
 use Rattle.m2v_order.proofs.Queues.{grouped, due_is, turn_is, group_length, group_some, has_next, sound_next}
 use Rattle.m2v_order.proofs.Wholes.{group_stays, due_stays}
-use Rattle.m2v_law_headline.specs.m2v_enc_stream.Streams.{Progress, at_start, group_coded, groups_begun, groups_coded, groups_from, waiting, coded_all, coded_begun}
-use Rattle.m2v_law_headline.proofs.m2v_enc_stream.Queues.{from_due, from_none}
+use Rattle.m2v_law_shown.specs.m2v_enc_stream.Streams.{Progress, at_start, group_coded, groups_begun, groups_coded, groups_from, waiting, coded_all, coded_begun}
+use Rattle.m2v_law_shown.proofs.m2v_enc_stream.Queues.{from_due, from_none}
 use Rattle.m2v_encode.specs.Steps.{HandedOut}
 
 -- ---- groups of a queue

@@ -19,11 +19,11 @@ use Rattle.m2v_encode.specs.declared.answer.EncodeError.{EncodeError}
 use Rattle.m2v_encode.specs.declared.answer.EncodeError.TheVariants.{Read, Write, ShortFrame, NoFrames, TooManyFrames, Memory}
 use Rattle.m2v_encode.specs.declared.group.Coder.{Coder}
 use Rattle.m2v_encode.specs.Groups.{whole_ledger, group_text, group_shown, anchor_behind, IsPlace}
-use Rattle.m2v_law_headline.specs.m2v_enc_stream.Streams.{zeros_sum}
+use Rattle.m2v_law_shown.specs.m2v_enc_stream.Streams.{zeros_sum}
 use Rattle.m2v_encode.specs.declared.answer.Summary.{Summary}
 use Rattle.m2v_encode.specs.Steps.{PutStops, GroupStops, GroupCoded, GoesOn, book_by}
 use Rattle.m2v_slice.proofs.Ledgers.{whole_ledger_is, whole_settings, whole_kinds, whole_sizes, removals_kept}
-use Rattle.m2v_law_headline.proofs.m2v_enc_stream.Anchors.{anchor_some, anchor_size}
+use Rattle.m2v_law_shown.proofs.m2v_enc_stream.Anchors.{anchor_some, anchor_size}
 
 -- ---- where it stops
 

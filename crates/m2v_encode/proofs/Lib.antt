@@ -14,7 +14,6 @@ pub mod Due
 pub mod Ends
 pub mod Loop
 pub mod WithoutRecon
-pub use Rattle.m2v_law_headline.proofs as m2v_law_headline
-pub use Rattle.m2v_law_headline.proofs.m2v_enc_stream
-pub use Rattle.m2v_law_headline.proofs.m2v_law_shown
-pub use Rattle.m2v_law_headline.proofs.m2v_law_tree
+pub use Rattle.m2v_law_shown.proofs.m2v_enc_stream
+pub use Rattle.m2v_law_shown.proofs as m2v_law_shown
+pub use Rattle.m2v_law_shown.proofs.m2v_law_tree

@@ -19,10 +19,10 @@ use Rattle.m2v_slice.specs.Books.{Book, rows, job_at, picture_at, size_of, ledge
 use Rattle.m2v_slice.specs.Conditions.{IsBook}
 use Rattle.m2v_slice.proofs.Groups.{passes_of}
 use Rattle.m2v_slice.proofs.Ledgers.{whole_ledger_is, whole_settings, whole_kinds, whole_sizes, size_at}
-use Rattle.m2v_law_headline.specs.m2v_enc_stream.Streams.{zeros_of, delay_at, picture_text, pictures_text, zeros_sum}
+use Rattle.m2v_law_shown.specs.m2v_enc_stream.Streams.{zeros_of, delay_at, picture_text, pictures_text, zeros_sum}
 use Rattle.m2v_encode.specs.Groups.{all_coded, whole_ledger, slices_text, IsPlace}
 use Rattle.m2v_encode.proofs.Pieces.{size_small}
-use Rattle.m2v_law_headline.proofs.m2v_enc_stream.Pictures.{picture_length, pictures_more, zeros_whole}
+use Rattle.m2v_law_shown.proofs.m2v_enc_stream.Pictures.{picture_length, pictures_more, zeros_whole}
 use Rattle.m2v_encode.proofs.PictureTexts.{header_whole, slices_edge, slices_all, picture_bytes}
 
 -- ---- the ledger

@@ -19,13 +19,13 @@ use Rattle.m2v_order.specs.Groups.{Queue, Group, opening, next_intra, is_due, gr
 use Rattle.m2v_order.proofs.Queues.{due_is, sound_end}
 use Rattle.m2v_rate.specs.Plans.{fresh}
 use Rattle.m2v_slice.specs.Books.{Book}
-use Rattle.m2v_law_headline.specs.m2v_enc_stream.Streams.{Progress, at_start, book_of, group_coded, groups_begun, zeros_sum, coded_all, Coded, Recon}
+use Rattle.m2v_law_shown.specs.m2v_enc_stream.Streams.{Progress, at_start, book_of, group_coded, groups_begun, zeros_sum, coded_all, Coded, Recon}
 use Rattle.m2v_encode.specs.declared.answer.Summary.{Summary}
 use Rattle.m2v_encode.specs.declared.answer.EncodeError.{EncodeError}
 use Rattle.m2v_encode.specs.declared.answer.EncodeError.TheVariants.{Read, Write, ShortFrame, NoFrames, TooManyFrames, Memory}
 use Rattle.m2v_encode.specs.declared.group.Coder.{Coder}
-use Rattle.m2v_law_headline.proofs.Headline.{headline}
-use Rattle.m2v_law_headline.proofs.Lengths.{bytes_by}
+use Rattle.m2v_law_shown.proofs.Headline.{headline}
+use Rattle.m2v_law_shown.proofs.Lengths.{bytes_by}
 use Rattle.m2v_encode.specs.Answers.{AreWhole, most_frames, AllCoded, Unended, CutOff, Stops}
 use Rattle.m2v_encode.specs.Groups.{whole_ledger, group_text, group_shown, anchor_behind}
 use Rattle.m2v_encode.specs.Steps.{FrameRead, FrameStops, ReadStops, book_by, GroupCoded, GroupStops, DueCoded, DueStops, EndCoded, EndCut, EndStops, HandedOut, Stands, SoFar}

@@ -21,12 +21,12 @@ use Rattle.m2v_slice.specs.Conditions.{IsBook}
 use Rattle.m2v_slice.proofs.Coded.{count}
 use Rattle.m2v_slice.proofs.Groups.{HasStructure, picture_is_one}
 use Rattle.m2v_slice.proofs.Fitting.{slice_size}
-use Rattle.m2v_law_headline.specs.m2v_enc_stream.Streams.{frame_by, picture_with, frame_of}
+use Rattle.m2v_law_shown.specs.m2v_enc_stream.Streams.{frame_by, picture_with, frame_of}
 use Rattle.m2v_encode.specs.Groups.{all_coded}
 use Rattle.m2v_encode.specs.Rebuilt.{rows_in, with_rows, rebuilt_by}
 use Rattle.m2v_encode.proofs.Covering.{covered}
-use Rattle.m2v_law_headline.proofs.m2v_law_shown.Reading.{plane_same}
-use Rattle.m2v_law_headline.proofs.m2v_law_shown.Frames.{even_line, odd_line}
+use Rattle.m2v_law_shown.proofs.Reading.{plane_same}
+use Rattle.m2v_law_shown.proofs.Frames.{even_line, odd_line}
 
 -- ---- frames by their samples
 

@@ -5,8 +5,8 @@ use Rattle.m2v_port.specs.Port.{Moves, IsAtEnd, Grows, GrowsByPrefix}
 use Rattle.m2v_plane.specs.Raw.{frame_bytes, raw}
 use Rattle.m2v_set.specs.declared.settings.Settings.{Settings}
 use Rattle.m2v_set.specs.Numbers.{dims_of}
-use Rattle.m2v_law_headline.specs.m2v_enc_stream.Streams.{coded_all, Coded, Recon, CodedBegun, ReconBegun}
-use Rattle.m2v_law_headline.specs.Laws.{Headline}
+use Rattle.m2v_law_shown.specs.m2v_enc_stream.Streams.{coded_all, Coded, Recon, CodedBegun, ReconBegun}
+use Rattle.m2v_law_shown.specs.Headline.{Headline}
 use Rattle.m2v_encode.specs.declared.answer.Summary.{Summary}
 use Rattle.m2v_encode.specs.declared.answer.EncodeError.{EncodeError}
 use Rattle.m2v_encode.specs.declared.answer.EncodeError.TheVariants.{Read, Write, ShortFrame, NoFrames, TooManyFrames, Memory}

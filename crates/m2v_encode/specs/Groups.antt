@@ -9,8 +9,8 @@ use Rattle.m2v_slice.specs.Books.{Book, rows, slice_at}
 pub use Rattle.m2v_slice.specs.Books.{all_coded, whole_ledger}
 use Rattle.m2v_slice.specs.Conditions.{IsBook}
 use Rattle.m2v_slice.specs.Jobs.{jobs_of}
-use Rattle.m2v_law_headline.specs.m2v_enc_stream.Streams.{pictures_text, frame_of}
-pub use Rattle.m2v_law_headline.specs.m2v_enc_stream.Streams.{anchor_behind}
+use Rattle.m2v_law_shown.specs.m2v_enc_stream.Streams.{pictures_text, frame_of}
+pub use Rattle.m2v_law_shown.specs.m2v_enc_stream.Streams.{anchor_behind}
 
 -- the text of the first slices of a picture
 abbrev pub slices_text : Book → ℕ → ℕ → List Bool

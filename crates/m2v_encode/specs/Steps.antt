@@ -13,7 +13,7 @@ use Rattle.m2v_order.specs.Times.{intervals_of}
 use Rattle.m2v_rate.specs.Plans.{account_at, begun}
 use Rattle.m2v_rate.specs.Steady.{IsSteady}
 use Rattle.m2v_slice.specs.Books.{Book, picture_activities}
-use Rattle.m2v_law_headline.specs.m2v_enc_stream.Streams.{Progress, at_start, groups_begun, groups_from, waiting, zeros_sum}
+use Rattle.m2v_law_shown.specs.m2v_enc_stream.Streams.{Progress, at_start, groups_begun, groups_from, waiting, zeros_sum}
 use Rattle.m2v_encode.specs.declared.answer.Summary.{Summary}
 use Rattle.m2v_encode.specs.declared.answer.EncodeError.{EncodeError}
 use Rattle.m2v_encode.specs.declared.answer.EncodeError.TheVariants.{Read, Write, ShortFrame, NoFrames, TooManyFrames, Memory}

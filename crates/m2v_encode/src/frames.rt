@@ -5,7 +5,7 @@ ghost use Rattle.m2v_port.specs.Port.{Grows};
 ghost use Rattle.m2v_plane.specs.Raw.{frame_bytes, raw, crop};
 ghost use Rattle.m2v_set.specs.Numbers.{dims_of};
 ghost use Rattle.m2v_slice.specs.Books.{job_at};
-ghost use Rattle.m2v_law_headline.specs.m2v_enc_stream.Streams.{frame_of, anchor_frame};
+ghost use Rattle.m2v_law_shown.specs.m2v_enc_stream.Streams.{frame_of, anchor_frame};
 ghost use Rattle.m2v_encode.specs.Groups.{all_coded, group_shown, anchor_behind};
 ghost use Rattle.m2v_encode.specs.Rebuilt.{with_rows};
 ghost use Rattle.m2v_encode.specs.Steps.{PutStops};

@@ -9,7 +9,7 @@ ghost use Rattle.m2v_vbv.specs.Account.{stuffing_of};
 ghost use Rattle.m2v_rate.specs.Plans.{account_at};
 ghost use Rattle.m2v_slice.specs.Headers.{header_units, bits_to_code};
 ghost use Rattle.m2v_slice.specs.Books.{rows, job_at, size_of};
-ghost use Rattle.m2v_law_headline.specs.m2v_enc_stream.Streams.{zeros_of, delay_at, picture_text, pictures_text, zeros_sum};
+ghost use Rattle.m2v_law_shown.specs.m2v_enc_stream.Streams.{zeros_of, delay_at, picture_text, pictures_text, zeros_sum};
 ghost use Rattle.m2v_encode.specs.Groups.{all_coded, whole_ledger, slices_text, group_text, IsPlace};
 ghost use Rattle.m2v_encode.specs.Steps.{PutStops, Sent};
 

@@ -32,6 +32,20 @@ pub mod Times
 pub mod TellsNumbers
 pub mod Intervals
 pub mod Account
+pub mod Groupings
+pub mod PictureUnits
+pub mod Told
+pub mod StreamPieces
+pub mod Lengths
+pub mod Codes
+pub mod Ends
+pub mod Wholes
+pub mod Accounts
+pub mod SentPictures
+pub mod ToldAccounts
+pub mod ToldDelays
+pub mod Orders
+pub mod Headline
 pub use Rattle.m2v_enc_stream.proofs as m2v_enc_stream
 pub use Rattle.m2v_law_tree.proofs as m2v_law_tree
 pub use Rattle.m2v_slice.proofs as m2v_slice

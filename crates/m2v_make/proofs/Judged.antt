@@ -17,7 +17,7 @@ use Rattle.m2v_encode.proofs.m2v_law_tree.Streams.{stream_stands}
 use Rattle.m2v_encode.proofs.m2v_law_shown.Decodes.{spelled}
 use Rattle.m2v_encode.specs.m2v_law_shown.Told.{number_delay, numbers_of}
 use Rattle.m2v_encode.proofs.m2v_law_shown.Account.{tells_numbers}
-use Rattle.m2v_encode.proofs.m2v_law_headline.Headline.{headline}
+use Rattle.m2v_encode.proofs.m2v_law_shown.Headline.{headline}
 use Rattle.m2v_check.specs.declared.verdict.Figures.{Figures}
 use Rattle.m2v_check.specs.Meaning.{IsLawful}
 

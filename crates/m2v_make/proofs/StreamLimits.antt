@@ -17,11 +17,11 @@ use Rattle.m2v_encode.specs.m2v_enc_stream.Sent.{SentPicture, Sent, removal_of}
 use Rattle.m2v_encode.specs.m2v_law_tree.Trees.{groups_of}
 use Rattle.m2v_encode.proofs.m2v_law_tree.Follows.{stream_follows}
 use Rattle.m2v_encode.proofs.m2v_law_shown.Decodes.{spelled}
-use Rattle.m2v_encode.proofs.m2v_law_headline.Accounts.{bits_are, total_is, pictures_counted}
-use Rattle.m2v_encode.proofs.m2v_law_headline.Ends.{with_end}
-use Rattle.m2v_encode.proofs.m2v_law_headline.Lengths.{bytes_by}
-use Rattle.m2v_encode.proofs.m2v_law_headline.SentPictures.{bits_of_sent, groups_take}
-use Rattle.m2v_encode.proofs.m2v_law_headline.ToldAccounts.{sent_safe}
+use Rattle.m2v_encode.proofs.m2v_law_shown.Accounts.{bits_are, total_is, pictures_counted}
+use Rattle.m2v_encode.proofs.m2v_law_shown.Ends.{with_end}
+use Rattle.m2v_encode.proofs.m2v_law_shown.Lengths.{bytes_by}
+use Rattle.m2v_encode.proofs.m2v_law_shown.SentPictures.{bits_of_sent, groups_take}
+use Rattle.m2v_encode.proofs.m2v_law_shown.ToldAccounts.{sent_safe}
 use Rattle.m2v_check.specs.m2v_model.Pieces.{pieces, most_input}
 use Rattle.m2v_check.specs.m2v_model.Buffering.{bits_of_piece}
 use Rattle.m2v_check.specs.m2v_decode.Complete.{IsUnderLimits}

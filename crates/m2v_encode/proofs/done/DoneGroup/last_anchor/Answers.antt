@@ -1,7 +1,7 @@
 use Rattle.std.proofs.Common.{◌∙◌, ◌+◌, sym, ap, Some, Option, ℕ, drop, arith, cond}
 use Rattle.std.specs.Prelude.{nat_eq}
 use Rattle.m2v_order.specs.declared.jobs.PictureJob.{PictureJob}
-use Rattle.m2v_law_headline.specs.m2v_enc_stream.Streams.{anchor_frame}
+use Rattle.m2v_law_shown.specs.m2v_enc_stream.Streams.{anchor_frame}
 use Rattle.m2v_encode.proofs.Anchors.{anchor_more, anchor_end}
 use Rattle.m2v_encode.proofs.done.DoneGroup.last_anchor.Goals as goal
 

@@ -1,5 +1,5 @@
 use Rattle.std.proofs.Common.{◌≡◌, drop, None}
-use Rattle.m2v_law_headline.specs.m2v_enc_stream.Streams.{anchor_frame}
+use Rattle.m2v_law_shown.specs.m2v_enc_stream.Streams.{anchor_frame}
 use Rattle.m2v_encode.proofs.done.DoneGroup.last_anchor.Given as goal
 
 abbrev pub invariant-loop-p : goal.invariant-loop-p

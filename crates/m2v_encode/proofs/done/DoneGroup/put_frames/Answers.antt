@@ -3,7 +3,7 @@ use Rattle.std.proofs.lemmas.Result.{err_from_is_err_and}
 use Rattle.m2v_plane.specs.declared.dims.Dims.{Dims}
 use Rattle.m2v_plane.specs.Samples.{Samples}
 use Rattle.m2v_plane.specs.Raw.{frame_bytes, raw, crop}
-use Rattle.m2v_law_headline.specs.m2v_enc_stream.Streams.{frame_of}
+use Rattle.m2v_law_shown.specs.m2v_enc_stream.Streams.{frame_of}
 use Rattle.m2v_port.specs.Port.{GrowsByPrefix}
 use Rattle.m2v_port.proofs.Runs.{stays_here, stays_on, grows_on, grows_by_nothing, grows_by_all, prefix_of_more}
 use Rattle.m2v_encode.specs.Groups.{all_coded, frames_shown}

@@ -5,7 +5,7 @@ use Rattle.m2v_rate.specs.Plans.{Entries}
 use Rattle.m2v_port.proofs.Runs.{grows_on}
 use Rattle.m2v_slice.specs.Headers.{header_units, bits_to_code}
 use Rattle.m2v_slice.specs.Books.{rows, job_at}
-use Rattle.m2v_law_headline.specs.m2v_enc_stream.Streams.{zeros_of}
+use Rattle.m2v_law_shown.specs.m2v_enc_stream.Streams.{zeros_of}
 use Rattle.m2v_encode.specs.Groups.{slices_text}
 use Rattle.m2v_encode.proofs.Puts.{put_first, put_then, grown_by}
 use Rattle.m2v_encode.proofs.PictureLaws.{known_at, due_at, zeros_at, sent_small, sent_bytes, parts_of, parts_split}

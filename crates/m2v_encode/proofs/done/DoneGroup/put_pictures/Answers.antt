@@ -2,10 +2,10 @@ use Rattle.std.proofs.Common.{◌∙◌, ◌+◌, ◌-◌, ◌*◌, ◌<◌, inl
 use Rattle.std.proofs.lemmas.Result.{err_from_is_err_and}
 use Rattle.m2v_bits.specs.Bits.{packed}
 use Rattle.m2v_port.proofs.Runs.{grows_on, grows_by_nothing, stays_here, stays_on}
-use Rattle.m2v_law_headline.specs.m2v_enc_stream.Streams.{pictures_text, zeros_sum}
+use Rattle.m2v_law_shown.specs.m2v_enc_stream.Streams.{pictures_text, zeros_sum}
 use Rattle.m2v_encode.specs.Groups.{all_coded}
 use Rattle.m2v_encode.proofs.Puts.{put_then, grown_by}
-use Rattle.m2v_law_headline.proofs.m2v_enc_stream.Pictures.{length_more, place_more, begun_at, begun_on}
+use Rattle.m2v_law_shown.proofs.m2v_enc_stream.Pictures.{length_more, place_more, begun_at, begun_on}
 use Rattle.m2v_encode.proofs.PictureLaws.{bytes_more, pictures_split, zeros_more}
 use Rattle.m2v_encode.proofs.done.DoneGroup.put_pictures.Goals as goal
 

@@ -3,7 +3,7 @@ use Rattle.m2v_bits.specs.Bits.{packed}
 use Rattle.m2v_port.specs.Ends.{SinkStays}
 use Rattle.m2v_port.specs.Port.{Grows}
 use Rattle.m2v_rate.specs.Plans.{account_at}
-use Rattle.m2v_law_headline.specs.m2v_enc_stream.Streams.{pictures_text, zeros_sum}
+use Rattle.m2v_law_shown.specs.m2v_enc_stream.Streams.{pictures_text, zeros_sum}
 use Rattle.m2v_encode.specs.Groups.{all_coded, IsPlace}
 use Rattle.m2v_encode.proofs.done.DoneGroup.put_pictures.Given as goal
 

@@ -5,18 +5,18 @@ ghost use Rattle.std.specs.List.{flat_map};
 ghost use Rattle.m2v_bits.specs.Bits.{packed, start_code};
 ghost use Rattle.m2v_set.specs.declared.settings.Settings.{Settings};
 ghost use Rattle.m2v_set.specs.Rules.{Passes};
-ghost use Rattle.m2v_law_shown.specs.m2v_enc_stream.Streams.{Coded, coded_all};
+ghost use Rattle.m2v_enc_stream.specs.Streams.{Coded, coded_all};
 ghost use Rattle.m2v_model.specs.Pieces.{pieces};
 ghost use Rattle.m2v_model.specs.Lawful.{Numbered};
 ghost use Rattle.m2v_model.specs.Buffering.{sizes, bits_of_piece, code_bits, codes, first_code};
 ghost use Rattle.m2v_model.specs.Buffering.{StreamAccount, unsafe_in, exact_delays, other_delays};
-ghost use Rattle.m2v_law_shown.specs.m2v_enc_stream.Sent.{SentPicture, Sent};
-ghost use Rattle.m2v_law_headline.specs.Texts.{picture_texts, picture_bits, picture_codes};
-ghost use Rattle.m2v_law_headline.specs.Texts.{code_places, Taken, ends_of};
-ghost use Rattle.m2v_law_headline.specs.Accounts.{AreTold, account_told, delay_in};
-ghost use Rattle.m2v_law_headline.specs.Laws.{Headline};
+ghost use Rattle.m2v_enc_stream.specs.Sent.{SentPicture, Sent};
+ghost use Rattle.m2v_law_shown.specs.Texts.{picture_texts, picture_bits, picture_codes};
+ghost use Rattle.m2v_law_shown.specs.Texts.{code_places, Taken, ends_of};
+ghost use Rattle.m2v_law_shown.specs.Accounts.{AreTold, account_told, delay_in};
+ghost use Rattle.m2v_law_shown.specs.Headline.{Headline};
 
-use m2v_law_shown::law_tree::{law_slice_calm, law_slice_reads};
+use m2v_law_tree::{law_slice_calm, law_slice_reads};
 
 /// The pieces of the stream of raw frames are its pictures in coding order, each with its headers,
 /// its slices and the zero bytes behind them, and then the sequence end code.

@@ -7,19 +7,19 @@ use Rattle.m2v_plane.specs.Samples.{Samples}
 use Rattle.m2v_set.specs.declared.settings.Settings.{Settings}
 use Rattle.m2v_order.specs.Groups.{Group}
 use Rattle.m2v_rate.specs.Plans.{Entries}
-use Rattle.m2v_law_shown.specs.m2v_slice.Headers.{bits_to_code}
-use Rattle.m2v_law_shown.specs.m2v_slice.Books.{Book, job_at, coded}
-use Rattle.m2v_law_shown.specs.m2v_slice.Conditions.{IsBook}
-use Rattle.m2v_law_shown.specs.m2v_enc_stream.Streams.{Progress, group_coded, groups_coded, picture_text, pictures_text, book_of}
+use Rattle.m2v_slice.specs.Headers.{bits_to_code}
+use Rattle.m2v_slice.specs.Books.{Book, job_at, coded}
+use Rattle.m2v_slice.specs.Conditions.{IsBook}
+use Rattle.m2v_enc_stream.specs.Streams.{Progress, group_coded, groups_coded, picture_text, pictures_text, book_of}
 use Rattle.m2v_model.specs.Buffering.{bits_of_piece, code_bits, codes}
-use Rattle.m2v_law_shown.proofs.m2v_law_tree.SliceUnits.{Spelled}
-use Rattle.m2v_law_shown.proofs.m2v_law_tree.PictureChains.{picture_text_holds}
-use Rattle.m2v_law_shown.proofs.m2v_enc_stream.Stands.{group_text_is}
-use Rattle.m2v_law_shown.proofs.m2v_law_tree.Groups.{MayFollow, AllFollow, done_of, ledger_of}
-use Rattle.m2v_law_headline.specs.Texts.{in_group, in_groups, place_at}
+use Rattle.m2v_law_tree.proofs.SliceUnits.{Spelled}
+use Rattle.m2v_law_tree.proofs.PictureChains.{picture_text_holds}
+use Rattle.m2v_enc_stream.proofs.Stands.{group_text_is}
+use Rattle.m2v_law_tree.proofs.Groups.{MayFollow, AllFollow, done_of, ledger_of}
+use Rattle.m2v_law_shown.specs.Texts.{in_group, in_groups, place_at}
 use Rattle.m2v_law_shown.proofs.Runs.{range_more}
-use Rattle.m2v_law_headline.proofs.Streams.{bytes_at}
-use Rattle.m2v_law_headline.proofs.Lengths.{bytes_by, piece_code}
+use Rattle.m2v_law_shown.proofs.StreamPieces.{bytes_at}
+use Rattle.m2v_law_shown.proofs.Lengths.{bytes_by, piece_code}
 
 -- ---- bits of pieces in a row
 

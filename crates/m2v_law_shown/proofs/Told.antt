@@ -8,14 +8,14 @@ use Rattle.m2v_plane.specs.Samples.{Samples}
 use Rattle.m2v_set.specs.declared.settings.Settings.{Settings}
 use Rattle.m2v_order.specs.Groups.{Group}
 use Rattle.m2v_rate.specs.Plans.{Entries}
-use Rattle.m2v_law_shown.specs.m2v_slice.Books.{Book, CodedPicture, coded}
-use Rattle.m2v_law_shown.specs.m2v_slice.Conditions.{IsBook}
-use Rattle.m2v_law_shown.specs.m2v_enc_stream.Streams.{Progress, book_of, group_coded, pictures_text}
+use Rattle.m2v_slice.specs.Books.{Book, CodedPicture, coded}
+use Rattle.m2v_slice.specs.Conditions.{IsBook}
+use Rattle.m2v_enc_stream.specs.Streams.{Progress, book_of, group_coded, pictures_text}
 use Rattle.m2v_model.specs.Units.{Units}
-use Rattle.m2v_law_shown.proofs.m2v_law_tree.PictureChains.{picture_units_of}
-use Rattle.m2v_law_shown.proofs.m2v_law_tree.Groups.{MayFollow, AllFollow, done_of, ledger_of, pictures_units, group_units_of, groups_units}
-use Rattle.m2v_law_headline.specs.Texts.{in_group, in_groups}
-use Rattle.m2v_law_headline.proofs.Groupings.{all_of, all_of_append}
+use Rattle.m2v_law_tree.proofs.PictureChains.{picture_units_of}
+use Rattle.m2v_law_tree.proofs.Groups.{MayFollow, AllFollow, done_of, ledger_of, pictures_units, group_units_of, groups_units}
+use Rattle.m2v_law_shown.specs.Texts.{in_group, in_groups}
+use Rattle.m2v_law_shown.proofs.Groupings.{all_of, all_of_append}
 use Rattle.m2v_law_shown.proofs.Runs.{range_more}
 
 -- ---- numbers in turn

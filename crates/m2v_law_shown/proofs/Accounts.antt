@@ -11,25 +11,25 @@ use Rattle.m2v_set.specs.declared.settings.Settings.{Settings}
 use Rattle.m2v_set.specs.Rules.{Passes}
 use Rattle.m2v_order.specs.declared.jobs.PictureJob.{PictureJob}
 use Rattle.m2v_order.specs.Groups.{Group}
-use Rattle.m2v_law_shown.specs.m2v_slice.Headers.{begins_group, bits_to_code}
-use Rattle.m2v_law_shown.specs.m2v_slice.Books.{job_at}
-use Rattle.m2v_law_shown.specs.m2v_enc_stream.Streams.{Progress, at_start, group_coded, groups_coded, coded_all, Coded, book_of, picture_text}
+use Rattle.m2v_slice.specs.Headers.{begins_group, bits_to_code}
+use Rattle.m2v_slice.specs.Books.{job_at}
+use Rattle.m2v_enc_stream.specs.Streams.{Progress, at_start, group_coded, groups_coded, coded_all, Coded, book_of, picture_text}
 use Rattle.m2v_model.specs.Units.{cut}
 use Rattle.m2v_model.specs.Pieces.{pieces}
 use Rattle.m2v_model.specs.Buffering.{sizes, before_picture, bits_of_piece, code_bits, codes, first_code}
-use Rattle.m2v_law_shown.specs.m2v_law_tree.Trees.{groups_of}
-use Rattle.m2v_law_shown.proofs.m2v_slice.Firsts.{first_begins}
-use Rattle.m2v_law_shown.proofs.m2v_law_tree.SliceUnits.{Spelled}
-use Rattle.m2v_law_shown.proofs.m2v_enc_stream.Queues.{coded_is, stream_some}
-use Rattle.m2v_law_shown.proofs.m2v_law_tree.Follows.{stream_follows}
-use Rattle.m2v_law_shown.proofs.m2v_law_tree.Groups.{MayFollow, AllFollow}
-use Rattle.m2v_law_headline.specs.Texts.{in_group, in_groups, bits_at, code_at, picture_texts, picture_bits, picture_codes, code_places, Taken, ends_of}
-use Rattle.m2v_law_headline.proofs.Told.{groups_give}
-use Rattle.m2v_law_headline.proofs.Streams.{bytes_at, packed_are, pieces_are}
-use Rattle.m2v_law_shown.proofs.m2v_enc_stream.Pictures.{picture_length}
-use Rattle.m2v_law_headline.proofs.Lengths.{piece_bits, piece_code}
-use Rattle.m2v_law_headline.proofs.Ends.{sizes_are, groups_end}
-use Rattle.m2v_law_headline.proofs.Codes.{bits_of_all, bits_append, bits_one, codes_append, codes_one, groups_bits, groups_codes}
+use Rattle.m2v_law_tree.specs.Trees.{groups_of}
+use Rattle.m2v_slice.proofs.Firsts.{first_begins}
+use Rattle.m2v_law_tree.proofs.SliceUnits.{Spelled}
+use Rattle.m2v_enc_stream.proofs.Queues.{coded_is, stream_some}
+use Rattle.m2v_law_tree.proofs.Follows.{stream_follows}
+use Rattle.m2v_law_tree.proofs.Groups.{MayFollow, AllFollow}
+use Rattle.m2v_law_shown.specs.Texts.{in_group, in_groups, bits_at, code_at, picture_texts, picture_bits, picture_codes, code_places, Taken, ends_of}
+use Rattle.m2v_law_shown.proofs.Told.{groups_give}
+use Rattle.m2v_law_shown.proofs.StreamPieces.{bytes_at, packed_are, pieces_are}
+use Rattle.m2v_enc_stream.proofs.Pictures.{picture_length}
+use Rattle.m2v_law_shown.proofs.Lengths.{piece_bits, piece_code}
+use Rattle.m2v_law_shown.proofs.Ends.{sizes_are, groups_end}
+use Rattle.m2v_law_shown.proofs.Codes.{bits_of_all, bits_append, bits_one, codes_append, codes_one, groups_bits, groups_codes}
 
 -- ---- the last piece
 

@@ -1,7 +1,7 @@
-use Rattle.m2v_law_shown.proofs.m2v_law_tree.SliceUnits.{Spelled}
-use Rattle.m2v_law_headline.proofs.ToldAccounts.{all_safe}
-use Rattle.m2v_law_headline.proofs.ToldDelays.{all_exact}
-use Rattle.m2v_law_headline.proofs.laws.law_account.Goals as goal
+use Rattle.m2v_law_tree.proofs.SliceUnits.{Spelled}
+use Rattle.m2v_law_shown.proofs.ToldAccounts.{all_safe}
+use Rattle.m2v_law_shown.proofs.ToldDelays.{all_exact}
+use Rattle.m2v_law_shown.proofs.stream_laws.law_account.Goals as goal
 
 pub returns : goal.returns
 returns c =

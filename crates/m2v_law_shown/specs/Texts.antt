@@ -5,10 +5,10 @@ use Rattle.m2v_plane.specs.Samples.{Samples}
 use Rattle.m2v_set.specs.declared.settings.Settings.{Settings}
 use Rattle.m2v_order.specs.Groups.{Group}
 use Rattle.m2v_rate.specs.Plans.{Entries}
-use Rattle.m2v_law_shown.specs.m2v_slice.Headers.{bits_to_code}
-use Rattle.m2v_law_shown.specs.m2v_slice.Books.{Book, CodedPicture, coded, job_at, size_of, ledger_behind}
-use Rattle.m2v_law_shown.specs.m2v_enc_stream.Streams.{Progress, at_start, book_of, zeros_of, picture_text, pictures_text, group_coded}
-use Rattle.m2v_law_shown.specs.m2v_law_tree.Trees.{groups_of}
+use Rattle.m2v_slice.specs.Headers.{bits_to_code}
+use Rattle.m2v_slice.specs.Books.{Book, CodedPicture, coded, job_at, size_of, ledger_behind}
+use Rattle.m2v_enc_stream.specs.Streams.{Progress, at_start, book_of, zeros_of, picture_text, pictures_text, group_coded}
+use Rattle.m2v_law_tree.specs.Trees.{groups_of}
 
 -- ---- one value of each picture
 

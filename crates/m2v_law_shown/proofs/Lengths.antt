@@ -6,22 +6,22 @@ use Rattle.m2v_head.specs.Texts.{sequence_text, sequence_extension_text, group_t
 use Rattle.m2v_set.specs.declared.settings.Settings.{Settings}
 use Rattle.m2v_order.specs.declared.jobs.PictureJob.{PictureJob}
 use Rattle.m2v_rate.specs.Plans.{Entries}
-use Rattle.m2v_law_shown.specs.m2v_slice.Headers.{sequence_of, sequence_extension_of, group_from, bits_to_code, begins_group}
-use Rattle.m2v_law_shown.proofs.m2v_slice.TextLengths.{sequence_length, sequence_extension_length, group_length}
-use Rattle.m2v_law_shown.specs.m2v_slice.Books.{Book, job_at, coded}
-use Rattle.m2v_law_shown.specs.m2v_slice.Conditions.{IsBook}
-use Rattle.m2v_law_shown.specs.m2v_enc_stream.Streams.{zeros_of, delay_at, picture_text}
+use Rattle.m2v_slice.specs.Headers.{sequence_of, sequence_extension_of, group_from, bits_to_code, begins_group}
+use Rattle.m2v_slice.proofs.TextLengths.{sequence_length, sequence_extension_length, group_length}
+use Rattle.m2v_slice.specs.Books.{Book, job_at, coded}
+use Rattle.m2v_slice.specs.Conditions.{IsBook}
+use Rattle.m2v_enc_stream.specs.Streams.{zeros_of, delay_at, picture_text}
 use Rattle.m2v_model.specs.Units.{Units, cut}
 use Rattle.m2v_model.specs.Buffering.{before_picture, bits_of_piece, code_bits}
 use Rattle.m2v_model.proofs.CutLaws.{are_before, cut_units}
 use Rattle.m2v_model.specs.Texts.{ended, unit_bytes}
-use Rattle.m2v_law_shown.proofs.m2v_enc_stream.Pictures.{picture_length}
+use Rattle.m2v_enc_stream.proofs.Pictures.{picture_length}
 use Rattle.m2v_model.proofs.Ends.{end_bytes, end_packs}
-use Rattle.m2v_law_shown.proofs.m2v_law_tree.Zeros.{padded_cuts}
-use Rattle.m2v_law_shown.proofs.m2v_law_tree.SliceUnits.{Spelled}
-use Rattle.m2v_law_shown.proofs.m2v_law_tree.Pictures.{sequence_bytes, extension_bytes, group_bytes, picture_bytes, coding_bytes}
-use Rattle.m2v_law_shown.proofs.m2v_law_tree.PictureChains.{header_bytes, slices_bytes, picture_units_of, picture_text_holds}
-use Rattle.m2v_law_headline.specs.Texts.{bits_at}
+use Rattle.m2v_law_tree.proofs.Zeros.{padded_cuts}
+use Rattle.m2v_law_tree.proofs.SliceUnits.{Spelled}
+use Rattle.m2v_law_tree.proofs.Pictures.{sequence_bytes, extension_bytes, group_bytes, picture_bytes, coding_bytes}
+use Rattle.m2v_law_tree.proofs.PictureChains.{header_bytes, slices_bytes, picture_units_of, picture_text_holds}
+use Rattle.m2v_law_shown.specs.Texts.{bits_at}
 
 -- ---- bytes of texts
 

@@ -7,27 +7,27 @@ use Rattle.m2v_set.specs.declared.settings.Settings.{Settings}
 use Rattle.m2v_set.specs.Rules.{Passes}
 use Rattle.m2v_vbv.specs.Annex.{Start, Removal, removed, Safe}
 use Rattle.m2v_rate.specs.Plans.{start_of}
-use Rattle.m2v_law_shown.specs.m2v_slice.Headers.{sequence_of, sequence_extension_of}
-use Rattle.m2v_law_shown.specs.m2v_enc_stream.Streams.{Coded, coded_all, at_start}
+use Rattle.m2v_slice.specs.Headers.{sequence_of, sequence_extension_of}
+use Rattle.m2v_enc_stream.specs.Streams.{Coded, coded_all, at_start}
 use Rattle.m2v_model.specs.Pieces.{pieces}
 use Rattle.m2v_model.specs.Lawful.{Numbered, rate_of, buffer_of}
 use Rattle.m2v_model.specs.Buffering.{StreamAccount, intervals, sizes, bits_of_piece, joined_removals, removals, unsafe_in}
 use Rattle.m2v_model.proofs.VerdictLaws.{judged_by_all}
-use Rattle.m2v_law_shown.specs.m2v_enc_stream.Sent.{SentPicture, Sent, removal_of}
-use Rattle.m2v_law_shown.proofs.m2v_enc_stream.Begins.{stream_begins}
-use Rattle.m2v_law_shown.proofs.m2v_enc_stream.Units.{stream_units}
-use Rattle.m2v_law_shown.proofs.m2v_enc_stream.Flat.{stream_sent}
-use Rattle.m2v_law_shown.proofs.m2v_enc_stream.Streams.{stream_bits}
-use Rattle.m2v_law_shown.proofs.m2v_enc_stream.Groups.{all_coded}
-use Rattle.m2v_law_shown.specs.m2v_enc_stream.Removals.{Seen}
+use Rattle.m2v_enc_stream.specs.Sent.{SentPicture, Sent, removal_of}
+use Rattle.m2v_enc_stream.proofs.Begins.{stream_begins}
+use Rattle.m2v_enc_stream.proofs.Units.{stream_units}
+use Rattle.m2v_enc_stream.proofs.Flat.{stream_sent}
+use Rattle.m2v_enc_stream.proofs.Streams.{stream_bits}
+use Rattle.m2v_enc_stream.proofs.Groups.{all_coded}
+use Rattle.m2v_enc_stream.specs.Removals.{Seen}
 use Rattle.m2v_rate.proofs.Streams.{stream_safe}
-use Rattle.m2v_law_shown.specs.m2v_law_tree.Trees.{sequence_by, groups_of}
-use Rattle.m2v_law_shown.proofs.m2v_law_tree.SliceUnits.{Spelled}
-use Rattle.m2v_law_shown.proofs.m2v_law_tree.Follows.{stream_follows}
-use Rattle.m2v_law_headline.specs.Accounts.{AreTold, account_told}
-use Rattle.m2v_law_headline.proofs.Accounts.{taken_is, total_is, first_is}
-use Rattle.m2v_law_headline.proofs.Ends.{groups_end}
-use Rattle.m2v_law_headline.proofs.SentPictures.{bits_of_sent, groups_take}
+use Rattle.m2v_law_tree.specs.Trees.{sequence_by, groups_of}
+use Rattle.m2v_law_tree.proofs.SliceUnits.{Spelled}
+use Rattle.m2v_law_tree.proofs.Follows.{stream_follows}
+use Rattle.m2v_law_shown.specs.Accounts.{AreTold, account_told}
+use Rattle.m2v_law_shown.proofs.Accounts.{taken_is, total_is, first_is}
+use Rattle.m2v_law_shown.proofs.Ends.{groups_end}
+use Rattle.m2v_law_shown.proofs.SentPictures.{bits_of_sent, groups_take}
 
 -- ---- the sequence header
 

@@ -4,31 +4,31 @@ use Rattle.std.proofs.lemmas.List.{length-map}
 use Rattle.m2v_set.specs.declared.settings.Settings.{Settings}
 use Rattle.m2v_set.specs.Numbers.{delay_of}
 use Rattle.m2v_set.specs.Rules.{Passes}
-use Rattle.m2v_law_shown.specs.m2v_slice.Headers.{sequence_extension_of}
-use Rattle.m2v_law_shown.specs.m2v_enc_stream.Streams.{Coded, coded_all, at_start}
+use Rattle.m2v_slice.specs.Headers.{sequence_extension_of}
+use Rattle.m2v_enc_stream.specs.Streams.{Coded, coded_all, at_start}
 use Rattle.m2v_model.specs.Pieces.{pieces}
 use Rattle.m2v_model.specs.Decoding.{low_delay_of}
 use Rattle.m2v_model.specs.Lawful.{Numbered}
 use Rattle.m2v_model.specs.Buffering.{account_by, account_in, unsafe_in}
-use Rattle.m2v_law_shown.specs.m2v_enc_stream.Sent.{SentPicture, Sent}
-use Rattle.m2v_law_shown.proofs.m2v_enc_stream.Workers.{coded_same, recon_same}
-use Rattle.m2v_law_shown.proofs.m2v_enc_stream.Begins.{stream_begins}
-use Rattle.m2v_law_shown.specs.m2v_law_tree.Trees.{groups_of, tree_of}
-use Rattle.m2v_law_shown.proofs.m2v_law_tree.Follows.{stream_follows}
-use Rattle.m2v_law_shown.proofs.m2v_law_tree.Streams.{stream_stands}
+use Rattle.m2v_enc_stream.specs.Sent.{SentPicture, Sent}
+use Rattle.m2v_enc_stream.proofs.Workers.{coded_same, recon_same}
+use Rattle.m2v_enc_stream.proofs.Begins.{stream_begins}
+use Rattle.m2v_law_tree.specs.Trees.{groups_of, tree_of}
+use Rattle.m2v_law_tree.proofs.Follows.{stream_follows}
+use Rattle.m2v_law_tree.proofs.Streams.{stream_stands}
 use Rattle.m2v_law_shown.proofs.Decodes.{spelled, decodes_to}
 use Rattle.m2v_law_shown.specs.Told.{number_delay, numbers_of}
 use Rattle.m2v_law_shown.proofs.Streams.{stream_told}
 use Rattle.m2v_law_shown.proofs.Account.{tells_numbers, stream_intervals}
 use Rattle.m2v_law_shown.proofs.Lawful.{encoded_lawful}
-use Rattle.m2v_law_headline.specs.Texts.{picture_bits}
-use Rattle.m2v_law_headline.specs.Accounts.{AreTold, account_told, delay_in}
-use Rattle.m2v_law_headline.specs.Laws.{Headline}
-use Rattle.m2v_law_headline.proofs.Accounts.{pictures_counted}
-use Rattle.m2v_law_headline.proofs.Ends.{with_end}
-use Rattle.m2v_law_headline.proofs.SentPictures.{bits_of_sent, groups_take}
-use Rattle.m2v_law_headline.proofs.ToldAccounts.{all_safe}
-use Rattle.m2v_law_headline.proofs.Orders.{pictures_ordered, frames_shown}
+use Rattle.m2v_law_shown.specs.Texts.{picture_bits}
+use Rattle.m2v_law_shown.specs.Accounts.{AreTold, account_told, delay_in}
+use Rattle.m2v_law_shown.specs.Headline.{Headline}
+use Rattle.m2v_law_shown.proofs.Accounts.{pictures_counted}
+use Rattle.m2v_law_shown.proofs.Ends.{with_end}
+use Rattle.m2v_law_shown.proofs.SentPictures.{bits_of_sent, groups_take}
+use Rattle.m2v_law_shown.proofs.ToldAccounts.{all_safe}
+use Rattle.m2v_law_shown.proofs.Orders.{pictures_ordered, frames_shown}
 
 with_end_length : (xs : List ℕ) → length (with_end xs) ≡ length xs
 unfolding with_end

@@ -1,8 +1,8 @@
-use Rattle.m2v_law_shown.proofs.m2v_law_tree.SliceUnits.{Spelled}
-use Rattle.m2v_law_headline.proofs.Streams.{pieces_are}
-use Rattle.m2v_law_headline.proofs.Accounts.{pictures_counted, lengths_are, bits_are, taken_is, total_is, codes_are, first_is, places_are, sums_are}
-use Rattle.m2v_law_headline.proofs.Wholes.{whole_is}
-use Rattle.m2v_law_headline.proofs.laws.law_pieces.Goals as goal
+use Rattle.m2v_law_tree.proofs.SliceUnits.{Spelled}
+use Rattle.m2v_law_shown.proofs.StreamPieces.{pieces_are}
+use Rattle.m2v_law_shown.proofs.Accounts.{pictures_counted, lengths_are, bits_are, taken_is, total_is, codes_are, first_is, places_are, sums_are}
+use Rattle.m2v_law_shown.proofs.Wholes.{whole_is}
+use Rattle.m2v_law_shown.proofs.stream_laws.law_pieces.Goals as goal
 
 pub returns : goal.returns
 returns c =

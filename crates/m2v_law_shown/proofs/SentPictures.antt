@@ -5,18 +5,18 @@ use Rattle.std.proofs.lemmas.List.{map-append}
 use Rattle.m2v_plane.specs.Samples.{Samples}
 use Rattle.m2v_set.specs.declared.settings.Settings.{Settings}
 use Rattle.m2v_order.specs.Groups.{Group}
-use Rattle.m2v_law_shown.specs.m2v_slice.Headers.{bits_to_code}
-use Rattle.m2v_law_shown.specs.m2v_slice.Books.{Book, job_at}
-use Rattle.m2v_law_shown.specs.m2v_slice.Conditions.{IsBook}
-use Rattle.m2v_law_shown.specs.m2v_enc_stream.Streams.{Progress, group_coded, book_of}
-use Rattle.m2v_law_shown.specs.m2v_enc_stream.Removals.{coded_of, ledger_of}
-use Rattle.m2v_law_shown.specs.m2v_enc_stream.Sent.{SentPicture, place_at, sent_at, group_sent, groups_sent}
-use Rattle.m2v_law_shown.proofs.m2v_law_tree.Groups.{MayFollow, AllFollow}
-use Rattle.m2v_law_headline.specs.Texts.{in_group, in_groups, bits_at, code_at}
-use Rattle.m2v_law_headline.proofs.Ends.{with_end, end_append, groups_some}
+use Rattle.m2v_slice.specs.Headers.{bits_to_code}
+use Rattle.m2v_slice.specs.Books.{Book, job_at}
+use Rattle.m2v_slice.specs.Conditions.{IsBook}
+use Rattle.m2v_enc_stream.specs.Streams.{Progress, group_coded, book_of}
+use Rattle.m2v_enc_stream.specs.Removals.{coded_of, ledger_of}
+use Rattle.m2v_enc_stream.specs.Sent.{SentPicture, place_at, sent_at, group_sent, groups_sent}
+use Rattle.m2v_law_tree.proofs.Groups.{MayFollow, AllFollow}
+use Rattle.m2v_law_shown.specs.Texts.{in_group, in_groups, bits_at, code_at}
+use Rattle.m2v_law_shown.proofs.Ends.{with_end, end_append, groups_some}
 use Rattle.m2v_law_shown.proofs.Runs.{range_more}
-use Rattle.m2v_law_headline.proofs.Told.{maps_range}
-use Rattle.m2v_law_shown.proofs.m2v_enc_stream.Pictures.{picture_length}
+use Rattle.m2v_law_shown.proofs.Told.{maps_range}
+use Rattle.m2v_enc_stream.proofs.Pictures.{picture_length}
 
 -- ---- numbers of the pictures that are sent
 

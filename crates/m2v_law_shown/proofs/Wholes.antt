@@ -7,14 +7,14 @@ use Rattle.m2v_plane.specs.Samples.{Samples}
 use Rattle.m2v_set.specs.declared.settings.Settings.{Settings}
 use Rattle.m2v_order.specs.Groups.{Group}
 use Rattle.m2v_rate.specs.Plans.{Entries}
-use Rattle.m2v_law_shown.specs.m2v_slice.Books.{Book, CodedPicture}
-use Rattle.m2v_law_shown.specs.m2v_enc_stream.Streams.{Progress, at_start, group_coded, groups_coded, coded_all, picture_text, pictures_text, book_of}
-use Rattle.m2v_law_shown.specs.m2v_law_tree.Trees.{groups_of}
-use Rattle.m2v_law_shown.proofs.m2v_enc_stream.Stands.{group_text_is}
-use Rattle.m2v_law_shown.proofs.m2v_law_tree.Groups.{done_of, ledger_of}
-use Rattle.m2v_law_headline.specs.Texts.{in_group, in_groups, picture_texts}
+use Rattle.m2v_slice.specs.Books.{Book, CodedPicture}
+use Rattle.m2v_enc_stream.specs.Streams.{Progress, at_start, group_coded, groups_coded, coded_all, picture_text, pictures_text, book_of}
+use Rattle.m2v_law_tree.specs.Trees.{groups_of}
+use Rattle.m2v_enc_stream.proofs.Stands.{group_text_is}
+use Rattle.m2v_law_tree.proofs.Groups.{done_of, ledger_of}
+use Rattle.m2v_law_shown.specs.Texts.{in_group, in_groups, picture_texts}
 use Rattle.m2v_law_shown.proofs.Runs.{range_more}
-use Rattle.m2v_law_shown.proofs.m2v_enc_stream.Queues.{coded_is}
+use Rattle.m2v_enc_stream.proofs.Queues.{coded_is}
 
 abbrev whole : List (List Bool) → List Bool
 whole ts = flat_map (λ (t : List Bool). t) ts

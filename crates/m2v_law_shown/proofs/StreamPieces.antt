@@ -7,23 +7,23 @@ use Rattle.m2v_plane.specs.Samples.{Samples}
 use Rattle.m2v_set.specs.declared.settings.Settings.{Settings}
 use Rattle.m2v_set.specs.Rules.{Passes}
 use Rattle.m2v_order.specs.Groups.{Group}
-use Rattle.m2v_law_shown.specs.m2v_enc_stream.Streams.{Progress, at_start, group_coded, coded_all, Coded, picture_text, pictures_text, book_of}
+use Rattle.m2v_enc_stream.specs.Streams.{Progress, at_start, group_coded, coded_all, Coded, picture_text, pictures_text, book_of}
 use Rattle.m2v_model.specs.declared.phase.Phase.TheVariants.{Before}
 use Rattle.m2v_model.specs.Units.{Units, Cuts, joined}
 use Rattle.m2v_model.specs.Pieces.{grouped, is_end, pieces}
 use Rattle.m2v_model.proofs.CutLaws.{cuts_is}
 use Rattle.m2v_model.proofs.Ends.{end_bytes, end_packs}
-use Rattle.m2v_law_shown.specs.m2v_law_tree.Trees.{groups_of}
-use Rattle.m2v_law_shown.proofs.m2v_law_tree.Zeros.{padded_cuts}
-use Rattle.m2v_law_shown.proofs.m2v_law_tree.SliceUnits.{Spelled}
-use Rattle.m2v_law_shown.proofs.m2v_law_tree.PictureChains.{picture_units_of, picture_text_holds}
-use Rattle.m2v_law_shown.proofs.m2v_enc_stream.Queues.{coded_is, stream_some}
-use Rattle.m2v_law_shown.proofs.m2v_law_tree.Follows.{stream_follows}
-use Rattle.m2v_law_shown.proofs.m2v_law_tree.Groups.{MayFollow, AllFollow, done_of, ledger_of, groups_units, groups_add}
-use Rattle.m2v_law_headline.specs.Texts.{in_group, in_groups, picture_texts}
-use Rattle.m2v_law_headline.proofs.Groupings.{IsPiece, Starts, starts_append, pieces_all}
-use Rattle.m2v_law_headline.proofs.PictureUnits.{picture_piece, picture_first}
-use Rattle.m2v_law_headline.proofs.Told.{Told, groups_give, groups_hold, units_at, groups_all}
+use Rattle.m2v_law_tree.specs.Trees.{groups_of}
+use Rattle.m2v_law_tree.proofs.Zeros.{padded_cuts}
+use Rattle.m2v_law_tree.proofs.SliceUnits.{Spelled}
+use Rattle.m2v_law_tree.proofs.PictureChains.{picture_units_of, picture_text_holds}
+use Rattle.m2v_enc_stream.proofs.Queues.{coded_is, stream_some}
+use Rattle.m2v_law_tree.proofs.Follows.{stream_follows}
+use Rattle.m2v_law_tree.proofs.Groups.{MayFollow, AllFollow, done_of, ledger_of, groups_units, groups_add}
+use Rattle.m2v_law_shown.specs.Texts.{in_group, in_groups, picture_texts}
+use Rattle.m2v_law_shown.proofs.Groupings.{IsPiece, Starts, starts_append, pieces_all}
+use Rattle.m2v_law_shown.proofs.PictureUnits.{picture_piece, picture_first}
+use Rattle.m2v_law_shown.proofs.Told.{Told, groups_give, groups_hold, units_at, groups_all}
 
 -- ---- the end
 

@@ -6,11 +6,11 @@ use Rattle.m2v_set.specs.declared.settings.Settings.{Settings}
 use Rattle.m2v_set.specs.Numbers.{delay_of}
 use Rattle.m2v_order.specs.Groups.{Group}
 use Rattle.m2v_order.specs.Times.{intervals_of}
-use Rattle.m2v_law_shown.specs.m2v_enc_stream.Streams.{Coded, coded_all}
+use Rattle.m2v_enc_stream.specs.Streams.{Coded, coded_all}
 use Rattle.m2v_model.specs.Pieces.{pieces}
 use Rattle.m2v_model.specs.Lawful.{Numbered}
 use Rattle.m2v_model.specs.Buffering.{StreamAccount, intervals, account_by}
-use Rattle.m2v_law_shown.specs.m2v_law_tree.Trees.{sequence_by, groups_of}
+use Rattle.m2v_law_tree.specs.Trees.{sequence_by, groups_of}
 
 -- the vbv_delay in the header of a picture
 abbrev pub delay_in : Numbered → ℕ

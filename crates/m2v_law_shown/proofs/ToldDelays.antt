@@ -7,19 +7,19 @@ use Rattle.m2v_set.specs.declared.settings.Settings.{Settings}
 use Rattle.m2v_set.specs.Rules.{Passes}
 use Rattle.m2v_vbv.specs.Annex.{Start, Removal, removed}
 use Rattle.m2v_rate.specs.Plans.{start_of}
-use Rattle.m2v_law_shown.specs.m2v_enc_stream.Streams.{Coded, at_start}
+use Rattle.m2v_enc_stream.specs.Streams.{Coded, at_start}
 use Rattle.m2v_model.specs.Pieces.{pieces}
 use Rattle.m2v_model.specs.Lawful.{Numbered}
 use Rattle.m2v_model.specs.Buffering.{StreamAccount, sizes, bits_of_piece, code_bits, codes, exact_delay, exact_delays, exact_delays_from, other_delays}
-use Rattle.m2v_law_shown.specs.m2v_enc_stream.Sent.{SentPicture, Sent, removal_of, AreExact}
-use Rattle.m2v_law_shown.proofs.m2v_enc_stream.Exact.{stream_exact}
-use Rattle.m2v_law_shown.specs.m2v_law_tree.Trees.{groups_of}
-use Rattle.m2v_law_shown.proofs.m2v_law_tree.SliceUnits.{Spelled}
-use Rattle.m2v_law_shown.proofs.m2v_law_tree.Follows.{stream_follows}
-use Rattle.m2v_law_headline.specs.Accounts.{AreTold, account_told, delay_in}
-use Rattle.m2v_law_headline.proofs.Accounts.{codes_are}
-use Rattle.m2v_law_headline.proofs.SentPictures.{bits_of_sent, codes_of_sent, groups_begin}
-use Rattle.m2v_law_headline.proofs.ToldAccounts.{account_sent, account_is, sizes_sent}
+use Rattle.m2v_enc_stream.specs.Sent.{SentPicture, Sent, removal_of, AreExact}
+use Rattle.m2v_enc_stream.proofs.Exact.{stream_exact}
+use Rattle.m2v_law_tree.specs.Trees.{groups_of}
+use Rattle.m2v_law_tree.proofs.SliceUnits.{Spelled}
+use Rattle.m2v_law_tree.proofs.Follows.{stream_follows}
+use Rattle.m2v_law_shown.specs.Accounts.{AreTold, account_told, delay_in}
+use Rattle.m2v_law_shown.proofs.Accounts.{codes_are}
+use Rattle.m2v_law_shown.proofs.SentPictures.{bits_of_sent, codes_of_sent, groups_begin}
+use Rattle.m2v_law_shown.proofs.ToldAccounts.{account_sent, account_is, sizes_sent}
 
 -- ---- lists
 

@@ -8,19 +8,19 @@ use Rattle.m2v_set.specs.declared.settings.Settings.{Settings}
 use Rattle.m2v_set.proofs.Facts.{bounds}
 use Rattle.m2v_order.specs.declared.jobs.PictureJob.{PictureJob}
 use Rattle.m2v_rate.specs.Plans.{Entries}
-use Rattle.m2v_law_shown.specs.m2v_slice.Headers.{begins_group}
-use Rattle.m2v_law_shown.specs.m2v_slice.Books.{Book, rows, job_at}
-use Rattle.m2v_law_shown.specs.m2v_slice.Conditions.{IsBook}
-use Rattle.m2v_law_shown.proofs.m2v_slice.Groups.{rows_few, passes_of}
-use Rattle.m2v_law_shown.specs.m2v_enc_stream.Streams.{zeros_of, delay_at}
+use Rattle.m2v_slice.specs.Headers.{begins_group}
+use Rattle.m2v_slice.specs.Books.{Book, rows, job_at}
+use Rattle.m2v_slice.specs.Conditions.{IsBook}
+use Rattle.m2v_slice.proofs.Groups.{rows_few, passes_of}
+use Rattle.m2v_enc_stream.specs.Streams.{zeros_of, delay_at}
 use Rattle.m2v_model.specs.Units.{Units}
 use Rattle.m2v_model.specs.Pieces.{begins_piece, is_end}
-use Rattle.m2v_law_shown.proofs.m2v_slice.Firsts.{first_begins}
-use Rattle.m2v_law_shown.proofs.m2v_law_tree.Zeros.{padded}
-use Rattle.m2v_law_shown.proofs.m2v_law_tree.SliceUnits.{slice_bytes}
-use Rattle.m2v_law_shown.proofs.m2v_law_tree.Pictures.{sequence_bytes, extension_bytes, group_bytes, picture_bytes, coding_bytes}
-use Rattle.m2v_law_shown.proofs.m2v_law_tree.PictureChains.{header_bytes, slices_bytes, picture_units_of, some_rows}
-use Rattle.m2v_law_headline.proofs.Groupings.{IsInner, IsPiece, IsFirst, plain_piece, group_piece, group_first}
+use Rattle.m2v_slice.proofs.Firsts.{first_begins}
+use Rattle.m2v_law_tree.proofs.Zeros.{padded}
+use Rattle.m2v_law_tree.proofs.SliceUnits.{slice_bytes}
+use Rattle.m2v_law_tree.proofs.Pictures.{sequence_bytes, extension_bytes, group_bytes, picture_bytes, coding_bytes}
+use Rattle.m2v_law_tree.proofs.PictureChains.{header_bytes, slices_bytes, picture_units_of, some_rows}
+use Rattle.m2v_law_shown.proofs.Groupings.{IsInner, IsPiece, IsFirst, plain_piece, group_piece, group_first}
 
 -- ---- slices
 
