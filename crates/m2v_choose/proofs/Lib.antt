@@ -10,6 +10,8 @@ pub mod Written
 pub mod Sums
 pub mod Leading
 pub mod PartSquares
+pub mod Alike
+pub mod Empties
 pub mod Tried
 pub mod Coded
 pub mod IntraCoded

@@ -154,6 +154,15 @@ place_is true b l c lt ll small =
     let g : (8 * (b % 2) + c) % 8 ≡ c = omega arith in
     λ i. record { block = e i; line = f i; column = g i }
 
+-- where a luma line begins
+pub luma_begins : (dct : Bool) (b l : ℕ) → b < 4 → block_place dct b (8 * l) ≡ luma_place dct b l
+unfolding block_place
+luma_begins dct b l lt =
+    let e : 8 * l / 8 ≡ l = omega arith in
+    let z : 8 * l % 8 ≡ 0 = omega arith in
+    let none : luma_place dct b l + 0 ≡ luma_place dct b l = omega arith in
+    rw (lt-ltb b 4 lt) ((λ i. luma_place dct b (e i) + z i) ∙ none)
+
 module _ (dct : Bool) (s p : List ℕ) (ls : List (List ℤ)) (pattern : ℕ) (luma chroma : BlockKind) where
   -- a sample of a block as it is rebuilt
   rebuilt_at : Bool → ℕ → ℕ → ℕ → ℕ
@@ -198,22 +207,13 @@ module _ (dct : Bool) (s p : List ℕ) (ls : List (List ℤ)) (pattern : ℕ) (l
       block-at (macro_sample p ls pattern luma chroma dct) Cr l c ll small
       ∙ (λ i. rebuilt_at (is_coded pattern (place i).block) (place i).block (8 * (place i).line + (place i).column) (320 + (8 * l + c)))
 
-  -- where a luma line begins
-  luma_begins : (b l : ℕ) → b < 4 → block_place dct b (8 * l) ≡ luma_place dct b l
-  unfolding block_place
-  luma_begins b l lt =
-      let e : 8 * l / 8 ≡ l = omega arith in
-      let z : 8 * l % 8 ≡ 0 = omega arith in
-      let none : luma_place dct b l + 0 ≡ luma_place dct b l = omega arith in
-      rw (lt-ltb b 4 lt) ((λ i. luma_place dct b (e i) + z i) ∙ none)
-
   block_sample : (b l c : ℕ) → b < 6 → l < 8 → c < 8
       → get_or samples (block_place dct b (8 * l) + c) 0 ≡ rebuilt_at (is_coded pattern b) b (8 * l + c) (block_place dct b (8 * l) + c)
   unfolding block_place
   block_sample b l c lt ll small =
       elim (cases_lt b 4) [
         | inl low ↦
-            let at = ap (λ k. k + c) (luma_begins b l low) in
+            let at = ap (λ k. k + c) (luma_begins dct b l low) in
             ap (λ k. get_or samples k 0) at ∙ luma_sample b l c low ll small ∙ ap (rebuilt_at (is_coded pattern b) b (8 * l + c)) (sym at)
         | inr high ↦
             elim (cases_lt b 5) [
@@ -261,28 +261,33 @@ same_block dct s x y b h =
     (λ l ll. sum_below_same (λ c. square_at s x (block_place dct b (8 * l) + c)) (λ c. square_at s y (block_place dct b (8 * l) + c)) 8
     (λ c small. ap (λ (v : ℕ). apart (get_or s (block_place dct b (8 * l) + c) 0) v ^ 2) (h l c ll small)))
 
+-- so they have the same squares there
+pub squares_alike : (dct : Bool) (s x y : List ℕ) (b : ℕ) → AreAlike dct b x y → block_squared dct s x b ≡ block_squared dct s y b
+squares_alike dct s x y b alike = same_block dct s x y b alike.at
+
 -- a block that is coded is rebuilt alike, whatever other blocks are
-pub coded_alike : (dct : Bool) (s p : List ℕ) (ls : List (List ℤ)) (one pattern : ℕ) (luma chroma : BlockKind) (b : ℕ) → b < 6 → is_coded one b ≡ true → is_coded pattern b ≡ true
-    → block_squared dct s (block_by (macro_sample p ls one luma chroma dct)) b ≡ block_squared dct s (block_by (macro_sample p ls pattern luma chroma dct)) b
+pub coded_alike : (dct : Bool) (p : List ℕ) (ls : List (List ℤ)) (one pattern : ℕ) (luma chroma : BlockKind) (b : ℕ) → b < 6 → is_coded one b ≡ true → is_coded pattern b ≡ true
+    → AreAlike dct b (block_by (macro_sample p ls one luma chroma dct)) (block_by (macro_sample p ls pattern luma chroma dct))
 unfolding samples rebuilt_at
-coded_alike dct s p ls one pattern luma chroma b lt first second =
-    same_block dct s (block_by (macro_sample p ls one luma chroma dct)) (block_by (macro_sample p ls pattern luma chroma dct)) b
-    (λ l c ll small.
-    block_sample dct s p ls one luma chroma b l c lt ll small
-    ∙ ap (λ (k : Bool). rebuilt_at dct s p ls one luma chroma k b (8 * l + c) (block_place dct b (8 * l) + c)) (first ∙ sym second)
-    ∙ sym (block_sample dct s p ls pattern luma chroma b l c lt ll small))
+coded_alike dct p ls one pattern luma chroma b lt first second = record {
+  at = λ l c ll small.
+      block_sample dct p p ls one luma chroma b l c lt ll small
+      ∙ ap (λ (k : Bool). rebuilt_at dct p p ls one luma chroma k b (8 * l + c) (block_place dct b (8 * l) + c)) (first ∙ sym second)
+      ∙ sym (block_sample dct p p ls pattern luma chroma b l c lt ll small);
+}
 
 -- a block is rebuilt from its own samples alone
-pub own_alike : (dct : Bool) (s x p : List ℕ) (ls : List (List ℤ)) (pattern : ℕ) (luma chroma : BlockKind) (b : ℕ) → b < 6 → AreAlike dct b x p
-    → block_squared dct s (block_by (macro_sample x ls pattern luma chroma dct)) b ≡ block_squared dct s (block_by (macro_sample p ls pattern luma chroma dct)) b
+pub own_alike : (dct : Bool) (x p : List ℕ) (ls : List (List ℤ)) (pattern : ℕ) (luma chroma : BlockKind) (b : ℕ) → b < 6 → AreAlike dct b x p
+    → AreAlike dct b (block_by (macro_sample x ls pattern luma chroma dct)) (block_by (macro_sample p ls pattern luma chroma dct))
 unfolding samples rebuilt_at
-own_alike dct s x p ls pattern luma chroma b lt alike =
+own_alike dct x p ls pattern luma chroma b lt alike =
     let difference = λ (i : ℕ). if is_coded pattern b then slice_index_or (inverse_of (coefficients_of (slice_index_or ls b (replicate 64 (pos 0))) (kind_of luma chroma b))) i (pos 0) else pos 0 in
-    same_block dct s (block_by (macro_sample x ls pattern luma chroma dct)) (block_by (macro_sample p ls pattern luma chroma dct)) b
-    (λ l c ll small.
-    block_sample dct s x ls pattern luma chroma b l c lt ll small
-    ∙ ap (λ (k : ℕ). clamped (pos (if is_coded pattern b && (kind_of luma chroma b).intra then 0 else k) +ℤ difference (8 * l + c))) (alike.at l c ll small)
-    ∙ sym (block_sample dct s p ls pattern luma chroma b l c lt ll small))
+    record {
+      at = λ l c ll small.
+          block_sample dct p x ls pattern luma chroma b l c lt ll small
+          ∙ ap (λ (k : ℕ). clamped (pos (if is_coded pattern b && (kind_of luma chroma b).intra then 0 else k) +ℤ difference (8 * l + c))) (alike.at l c ll small)
+          ∙ sym (block_sample dct p p ls pattern luma chroma b l c lt ll small);
+    }
 
 -- a block that isn't coded keeps its samples
 pub other_alike : (dct : Bool) (p : List ℕ) (ls : List (List ℤ)) (pattern : ℕ) (luma chroma : BlockKind) (b : ℕ) → b < 6 → is_coded pattern b ≡ false
@@ -296,6 +301,9 @@ other_alike dct p ls pattern luma chroma b lt off bytes = record {
 
 pub alike_itself : (dct : Bool) (b : ℕ) (x : List ℕ) → AreAlike dct b x x
 alike_itself dct b x = record { at = λ l c ll small. refl }
+
+pub alike_back : (dct : Bool) (b : ℕ) (x y : List ℕ) → AreAlike dct b x y → AreAlike dct b y x
+alike_back dct b x y alike = record { at = λ l c ll small. sym (alike.at l c ll small) }
 
 pub alike_on : (dct : Bool) (b : ℕ) (x y z : List ℕ) → AreAlike dct b x y → AreAlike dct b y z → AreAlike dct b x z
 alike_on dct b x y z first second = record { at = λ l c ll small. first.at l c ll small ∙ second.at l c ll small }

@@ -23,7 +23,7 @@ use Rattle.m2v_choose.specs.declared.task.Task.{Task}
 use Rattle.m2v_choose.specs.declared.trial.Best.{Best}
 use Rattle.m2v_choose.specs.Decisions.{Decision, increment_of, Candidate, Prediction, place_of, skipped, has_dct_type}
 use Rattle.m2v_choose.specs.Candidates.{may_skip, hold, codings, intra_by, by_prediction, plain_form, plain_direction, field_direction, predictions_by, zero_prediction, predictions, others}
-use Rattle.m2v_choose.specs.Choice.{bits_taken, choice_of, score, fits}
+use Rattle.m2v_choose.specs.Choice.{bits_taken, choice_of, samples_of, score, fits}
 use Rattle.m2v_choose.specs.Own.{IsOwn, AreNear}
 use Rattle.m2v_choose.specs.Laws.{Fits}
 use Rattle.m2v_choose.proofs.Chosen.{choice_fits}
@@ -194,6 +194,9 @@ module _ (d : Decision) where
 
     pub bits_all : i.choice.bits ≡ bits_taken d (choice_of d)
     bits_all = before.rated.bits ∙ ap (bits_taken d) chosen_all
+
+    pub samples_all : i.choice.samples.at ≡ samples_of d (choice_of d)
+    samples_all = before.rated.samples ∙ ap (samples_of d) chosen_all
 
 -- ---- bits
 

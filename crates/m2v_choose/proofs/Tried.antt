@@ -23,11 +23,12 @@ use Rattle.m2v_macroblock.specs.Modes.{skipped_mode}
 use Rattle.m2v_macroblock.specs.Texts.{block_in_text, macroblock_text}
 use Rattle.m2v_macroblock.specs.Predictions.{sample_at}
 use Rattle.m2v_macroblock.specs.Conditions.{AreDc, IsMatrix, IsPicture}
+use Rattle.m2v_pred.specs.declared.block.Block16.{Block16}
 use Rattle.m2v_pred.specs.Predicted.{predicted, block_by}
 use Rattle.m2v_choose.specs.declared.task.Task.{Task}
 use Rattle.m2v_choose.specs.declared.trial.Best.{Best}
 use Rattle.m2v_choose.specs.Decisions.{Decision, Candidate, place_of, increment_of, skipped, written}
-use Rattle.m2v_choose.specs.Choice.{bits_taken, candidate_at, squared, score, fits}
+use Rattle.m2v_choose.specs.Choice.{bits_taken, candidate_at, samples_of, squared, score, fits}
 use Rattle.m2v_choose.specs.Own.{IsOwn, IsOwnState}
 use Rattle.m2v_choose.specs.Trials.{as_first, References, decided, IsTask, candidate_of, rebuilt_by, Predicts, IsRated, Leader, leader_of, led, Tried}
 use Rattle.m2v_choose.proofs.Chosen.{either}
@@ -142,8 +143,22 @@ module _ (d : Decision) (x : Candidate) (old : Best) (rated : IsRated d old) whe
   unfolding led
   kept le = record { best = not_better (fits d x) le; rated = rated }
 
-  rated_as : (new : Best) → candidate_of new.choice ≡ x → new.choice.bits ≡ bits_taken d x → IsRated d new
-  rated_as new same bits = record { bits = bits ∙ ap (bits_taken d) (sym same) }
+  -- so it is where what is known of the best one stays
+  pub passed : (new : Best) → leader_of new ≡ leader_of old → new.choice.bits ≡ old.choice.bits → new.choice.samples ≡ old.choice.samples → old.below ≤ score d x
+      → Tried d old new (x ∷ [])
+  unfolding led
+  passed new same bits samples le =
+      let candidate = λ (l : Leader). l.candidate in
+      record {
+        best = same ∙ not_better (fits d x) le;
+        rated = record {
+          bits = bits ∙ rated.bits ∙ ap (λ (l : Leader). bits_taken d l.candidate) (sym same);
+          samples = ap (λ (b : Block16). b.at) samples ∙ rated.samples ∙ ap (λ (l : Leader). samples_of d l.candidate) (sym same);
+        };
+      }
+
+  rated_as : (new : Best) → candidate_of new.choice ≡ x → new.choice.bits ≡ bits_taken d x → new.choice.samples.at ≡ samples_of d x → IsRated d new
+  rated_as new same bits samples = record { bits = bits ∙ ap (bits_taken d) (sym same); samples = samples ∙ ap (samples_of d) (sym same) }
 
   is_better : (b : Bool) → b ≡ true → score d x < old.below
       → record { candidate = x; below = score d x } ≡ (if b && nat_lt (score d x) old.below then record { candidate = x; below = score d x } else leader_of old)
@@ -151,11 +166,12 @@ module _ (d : Decision) (x : Candidate) (old : Best) (rated : IsRated d old) whe
   is_better false e lt = absurd cc
 
   -- a better one is taken
-  pub taken : (new : Best) → candidate_of new.choice ≡ x → new.choice.bits ≡ bits_taken d x → new.below ≡ score d x → fits d x ≡ true → new.below < old.below → Tried d old new (x ∷ [])
+  pub taken : (new : Best) → candidate_of new.choice ≡ x → new.choice.bits ≡ bits_taken d x → new.choice.samples.at ≡ samples_of d x
+      → new.below ≡ score d x → fits d x ≡ true → new.below < old.below → Tried d old new (x ∷ [])
   unfolding led
-  taken new same bits points e lt = record {
+  taken new same bits samples points e lt = record {
     best = (λ i. record { candidate = same i; below = points i }) ∙ is_better (fits d x) e (omega (arith, lt, points));
-    rated = rated_as new same bits;
+    rated = rated_as new same bits samples;
   }
 
 pub fits_is : (d : Decision) (x : Candidate) (bits : ℕ) → bits ≡ bits_taken d x → (nat_le bits 4608 && nat_le bits d.limits.room) ≡ fits d x
@@ -169,6 +185,18 @@ pub written_score : (r : References) (t : Task) (m : MacroSyntax) (ls : List (Li
 unfolding score candidate_at rebuilt_by
 written_score r t m ls prediction e =
     ap (λ (p : List ℕ). 8 * squared t.source.now.at (block_by (sample_at t.context.now t.state.now p (record { syntax = m; levels = ls }))) + (2 * t.limits.now.q) ^ 2 * bits_taken (decided r t) (written m ls)) (sym e)
+
+-- its samples
+pub written_samples : (r : References) (t : Task) (m : MacroSyntax) (ls : List (List ℤ)) (prediction : List ℕ) → Predicts r t m prediction
+    → rebuilt_by t prediction (record { syntax = m; levels = ls }) ≡ samples_of (decided r t) (written m ls)
+unfolding candidate_at rebuilt_by
+written_samples r t m ls prediction e = ap (λ (p : List ℕ). block_by (sample_at t.context.now t.state.now p (record { syntax = m; levels = ls }))) e
+
+pub skipped_samples : (r : References) (t : Task) (prediction : List ℕ)
+    → prediction ≡ block_by (predicted r.forward r.backward (skipped_mode t.context.now t.state.now) (place_of (decided r t)))
+    → prediction ≡ samples_of (decided r t) skipped
+unfolding candidate_at
+skipped_samples r t prediction e = e
 
 pub skipped_score : (r : References) (t : Task) (prediction : List ℕ)
     → prediction ≡ block_by (predicted r.forward r.backward (skipped_mode t.context.now t.state.now) (place_of (decided r t)))

@@ -1,6 +1,6 @@
 -- Words of the choice's code: the blocks of a macroblock, and the best candidate so far.
-use Rattle.std.specs.Prelude.{ℕ, min, length, ◌^◌, ◌≢◌, ◌||◌, IsTrue, false, not, cond, ◌&&◌, ◌≡◌, ◌⊎◌, ◌<◌, ◌≤◌, ◌+◌, ◌-◌, ◌*◌, Bool, true, nat_eq, nat_lt, List, [], ◌∷◌, ◌++◌, map, slice_index, slice_index_or, sum_by, if◌then◌else◌, ℤ, pos, neg_ℤ, ◌-ℤ◌, ◌≤ℤ◌, ◌<ℤ◌, unsigned_abs, Option, IfSome, is_some}
-use Rattle.std.specs.List.{range_with_len, list_all}
+use Rattle.std.specs.Prelude.{ℕ, min, length, ◌^◌, ◌≢◌, ◌||◌, IsTrue, false, not, cond, ◌&&◌, ◌≡◌, ◌⊎◌, ◌<◌, ◌≤◌, ◌+◌, ◌-◌, ◌*◌, Bool, true, nat_eq, nat_lt, List, [], ◌∷◌, ◌++◌, map, slice_index, slice_index_or, sum_by, if◌then◌else◌, ℤ, pos, neg_ℤ, ◌-ℤ◌, ◌≤ℤ◌, ◌<ℤ◌, Option, IfSome, is_some}
+use Rattle.std.specs.List.{range_with_len}
 use Rattle.m2v_plane.specs.declared.dims.Dims.{Dims}
 use Rattle.m2v_plane.specs.declared.planes.Lines.{Lines}
 use Rattle.m2v_plane.specs.declared.planes.Plane.{Plane}
@@ -36,7 +36,7 @@ use Rattle.m2v_choose.specs.declared.task.Task.{Task}
 use Rattle.m2v_choose.specs.declared.coding.Uncoded.{Uncoded}
 use Rattle.m2v_choose.specs.Decisions.{Decision, Candidate, Prediction, has_dct_type, place_of, increment_of, block_place, differences, written, no_levels}
 use Rattle.m2v_choose.specs.Candidates.{plain_form, plain_direction, field_direction, predictions_by, zero_prediction}
-use Rattle.m2v_choose.specs.Choice.{bits_taken, score, fits, square_at}
+use Rattle.m2v_choose.specs.Choice.{bits_taken, samples_of, score, fits, square_at}
 use Rattle.m2v_choose.specs.Own.{IsOwn, IsCode, IsOwnState, AreLimits}
 
 -- a difference of a block
@@ -151,9 +151,10 @@ rebuilt_by t prediction x = block_by (sample_at t.context.now t.state.now predic
 abbrev pub Predicts : References → Task → MacroSyntax → List ℕ → Type 0
 Predicts r t m prediction = prediction ≡ prediction_of r.forward r.backward t.context.now (place_of (decided r t)) m
 
--- its bits are those of the definition
+-- its bits and its samples are those of the definition
 pub record IsRated (d : Decision) (b : Best) : Type 0 where
   pub bits : b.choice.bits ≡ bits_taken d (candidate_of b.choice)
+  pub samples : b.choice.samples.at ≡ samples_of d (candidate_of b.choice)
 
 -- the candidate that leads, and below what another one must score to lead in its place
 pub record Leader : Type 0 where

@@ -1,5 +1,5 @@
 //! The blocks of a macroblock: what is transformed, the transforms, the levels, and the pattern.
-ghost use Rattle.std.specs.Prelude.{true, false, not, ℕ, ◌≡◌, ◌≤◌, ◌<◌, ◌+◌, ◌*◌, All, cond, pos, ◌-ℤ◌};
+ghost use Rattle.std.specs.Prelude.{true, false, not, ℕ, ◌≡◌, ◌≤◌, ◌<◌, ◌+◌, ◌*◌, All, [], cond, slice_index_or, pos, ◌-ℤ◌, unsigned_abs};
 ghost use Rattle.m2v_quant.specs.Kinds.{IsKind, IsLevel};
 ghost use Rattle.m2v_quant.specs.Quantiser.{levels_of as quantised};
 ghost use Rattle.m2v_recon.specs.Macro.{kind_at, kind_of};
@@ -154,6 +154,50 @@ pub fn transform_by_fields(
     for block in 0..6usize {
         block_by_fields(source, prediction, frame, block, &mut out[block]);
     }
+}
+
+/// How far a coefficient lies from 0.
+#[inline(always)]
+fn size(coefficient: i32) -> u32
+    ensures { result ≡ unsigned_abs coefficient }
+{
+    coefficient.unsigned_abs()
+}
+
+/// The larger one of two numbers.
+#[inline(always)]
+fn larger(x: u32, y: u32) -> u32
+    ensures first { x ≤ result }
+    ensures second { y ≤ result }
+{
+    if x < y { y } else { x }
+}
+
+/// How far a block's coefficients lie from 0 at most.
+#[inline(always)]
+fn largest(transform: &[i32; 64]) -> u32
+    requires { All IsCoefficient transform.now }
+    ensures { (k : ℕ) → k < 64 → unsigned_abs (nth transform.now k) ≤ result }
+{
+    let mut most = 0;
+    for k in 0..64 {
+        most = larger(most, size(transform[k]));
+    }
+    most
+}
+
+/// Whether a coefficient of the six blocks may lie so far from 0.
+pub fn reaches(transforms: &[[i32; 64]; 6], least: u32) -> bool
+    requires { All (All IsCoefficient) transforms.now }
+    ensures { result ≡ false → (b k : ℕ) → b < 6 → k < 64
+        → unsigned_abs (nth (slice_index_or transforms.now b []) k) < least }
+{
+    for block in 0..6usize {
+        if largest(&transforms[block]) >= least {
+            return true;
+        }
+    }
+    false
 }
 
 /// The kind of a block, of those of luma and of chroma blocks.

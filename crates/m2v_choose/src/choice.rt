@@ -10,7 +10,7 @@ ghost use Rattle.m2v_macroblock.specs.Predictions.{View};
 ghost use Rattle.m2v_macroblock.specs.Conditions.{AreDc};
 ghost use Rattle.m2v_choose.specs.Decisions.{Decision, skipped, increment_of};
 ghost use Rattle.m2v_choose.specs.Candidates.{still_vector as still_vector_of, held_levels as held_levels_of, hold as hold_of, may_skip as may_skip_of, codings, intra_by, by_prediction};
-ghost use Rattle.m2v_choose.specs.Choice.{bits_taken, choice_of, score, squared as squared_of};
+ghost use Rattle.m2v_choose.specs.Choice.{bits_taken, choice_of, samples_of, score, squared as squared_of};
 ghost use Rattle.m2v_choose.specs.Own.{IsOwn, IsOwnState, AreLimits};
 ghost use Rattle.m2v_choose.specs.Trials.{References, decided, references_of, IsTask, IsRead, IsRated, IsStill, zero_predictions, later_predictions, Tried, AreReferences, IsBefore, HasDirection, decision, place_at, candidate_of, direction_by, place_for};
 
@@ -185,13 +185,15 @@ fn may_skip<V: RefView>(task: &Task, forward: &V, mode: &Mode) -> bool
 }
 
 impl Best {
-    /// Tries to skip the macroblock, where it may be skipped. `still` are the squares of the held one in a P picture.
+    /// Tries to skip the macroblock, where it may be skipped. `still` are the samples of the held one in a P picture, and
+    /// `squares` its squares.
     fn try_skip<V: RefView>(
         &mut self,
         task: &Task,
         forward: &V,
         backward: &V,
-        still: u32,
+        still: &Block16,
+        squares: u32,
         scratch: &mut TrialScratch,
     )
         requires task { IsTask task.now }
@@ -200,12 +202,13 @@ impl Best {
         requires references { AreReferences task.now.context.now.kind (place_for task.now)
             (V.size forward.now) (V.size backward.now)
             (V.Holds forward.now) (V.Holds backward.now) }
-        requires most { still ≤ 49939200 }
-        ensures tried { (samples : List ℕ) → let r = references_of (V.size forward.now)
+        requires most { squares ≤ 49939200 }
+        ensures tried { let r = references_of (V.size forward.now)
             (V.at forward.now) (V.at backward.now) in
             let d = decided r task.now in
-            IsStill r task.now samples
-            → (task.now.context.now.kind ≡ 2 → still ≡ squared_of task.now.source.now.at samples)
+            IsStill r task.now still.now.at
+            → (task.now.context.now.kind ≡ 2
+            → squares ≡ squared_of task.now.source.now.at still.now.at)
             → IsRated d self.old → Tried d self.old self.new
             (cond (may_skip_of d) (skipped ∷ []) []) }
     {
@@ -214,7 +217,7 @@ impl Best {
             return;
         }
         if task.context.kind == 2 {
-            self.try_skipped(task, still);
+            self.try_skipped(task, still, squares);
             return;
         }
         let TrialScratch {
@@ -223,7 +226,7 @@ impl Best {
             ..
         } = scratch;
         predict_in(forward, backward, &mode, place_of(task), second, prediction);
-        self.try_skipped(task, squared(task.source, prediction));
+        self.try_skipped(task, prediction, squared(task.source, prediction));
     }
 }
 
@@ -281,9 +284,12 @@ impl Best {
         ensures bits { let d = decided
             (references_of (V.size forward.now) (V.at forward.now) (V.at backward.now)) task.now in
             self.new.choice.bits ≡ bits_taken d (choice_of d) }
+        ensures samples { let d = decided
+            (references_of (V.size forward.now) (V.at forward.now) (V.at backward.now)) task.now in
+            self.new.choice.samples.at ≡ samples_of d (choice_of d) }
     {
         let squares = self.hold(task, forward, backward, &mut scratch.trial.second, still);
-        self.try_skip(task, forward, backward, squares, &mut scratch.trial);
+        self.try_skip(task, forward, backward, still, squares, &mut scratch.trial);
         if self.is_settled(task) {
             return;
         }
@@ -329,6 +335,9 @@ pub fn choose<V: RefView>(
     ensures bits { let d = decision (V.size forward.now) source.now.at (V.at forward.now)
         (V.at backward.now) context.now state.now limits.now in
         result.bits ≡ bits_taken d (choice_of d) }
+    ensures samples { let d = decision (V.size forward.now) source.now.at (V.at forward.now)
+        (V.at backward.now) context.now state.now limits.now in
+        result.samples.at ≡ samples_of d (choice_of d) }
     ensures most { result.bits ≤ 4608 }
     ensures fits { result.bits ≤ limits.now.room }
 {
@@ -376,6 +385,9 @@ pub fn choose_in<V: RefView>(
     ensures bits { let d = decision (V.size forward.now) source.now.at (V.at forward.now)
         (V.at backward.now) context.now state.now limits.now in
         result.bits ≡ bits_taken d (choice_of d) }
+    ensures samples { let d = decision (V.size forward.now) source.now.at (V.at forward.now)
+        (V.at backward.now) context.now state.now limits.now in
+        result.samples.at ≡ samples_of d (choice_of d) }
     ensures most { result.bits ≤ 4608 }
     ensures fits { result.bits ≤ limits.now.room }
 {

@@ -8,7 +8,7 @@ ghost use Rattle.m2v_choose.specs.Candidates.{second_q as second_q_of, codings_a
 ghost use Rattle.m2v_choose.specs.Own.{IsCode};
 ghost use Rattle.m2v_choose.specs.Trials.{References, decided, IsTask, IsRated, Tried, CanCode, has_types, AreSquares, IsMeasured, block_squared, coded_least, uncoded_squared, sends_code, with_blocks as with_blocks_of, transforms_of};
 
-use crate::blocks::{quantise_blocks, transform, transform_by_fields};
+use crate::blocks::{quantise_blocks, reaches, transform, transform_by_fields};
 use crate::scratch::CodingScratch;
 use crate::squares::{least_blocks, part_squares, uncoded_squares};
 use crate::task::Task;
@@ -260,6 +260,10 @@ impl Best {
             (record { q = q; dct_field = dct_field }) ∷ [])) }
     {
         if self.rules_out(task, plain, dct_field) {
+            return;
+        }
+        // a coefficient that lies nearer to 0 has no level
+        if !reaches(transforms, 2 * u32::from(q)) {
             return;
         }
         let kinds = kinds(task.context, false, q);

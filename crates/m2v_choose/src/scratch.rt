@@ -63,6 +63,7 @@ impl ChoiceScratch {
                     syntax: MacroSyntax::blank(),
                     levels: [none, none, none, none, none, none],
                     bits: 0,
+                    samples: Block16 { at: [0; 384] },
                 },
                 below: 0,
             },

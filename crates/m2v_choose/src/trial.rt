@@ -1,5 +1,5 @@
 //! The best candidate of a macroblock so far, and candidates that are tried against it.
-ghost use Rattle.std.specs.Prelude.{◌≡◌, ◌≢◌, ℕ, ◌+◌, ◌*◌, ◌^◌, ◌≤◌, ◌<◌, ◌&&◌, ◌⊎◌, All, List, true, cond, slice_index, nat_le, if◌then◌else◌, [], ◌∷◌, false, replicate};
+ghost use Rattle.std.specs.Prelude.{◌≡◌, ◌≢◌, ℕ, ◌+◌, ◌*◌, ◌^◌, ◌≤◌, ◌<◌, ◌&&◌, ◌⊎◌, All, List, true, cond, slice_index, nat_le, if◌then◌else◌, [], ◌∷◌, false, length, replicate};
 ghost use Rattle.m2v_macro.specs.Conditions.{IsMacro};
 ghost use Rattle.m2v_macroblock.specs.Macroblocks.{macroblock_of};
 ghost use Rattle.m2v_macroblock.specs.Modes.{skipped_mode};
@@ -91,37 +91,43 @@ fn quantiser_behind(task: &Task, syntax: &MacroSyntax) -> u8
     }
 }
 
-/// The squares of a written macroblock: of its source less its samples as they are rebuilt.
+/// The samples of a written macroblock as they are rebuilt, and the squares of its source less these.
 fn rebuilt_squares(
     task: &Task,
     syntax: &MacroSyntax,
     levels: &[Levels; 6],
     prediction: &Block16,
+    rebuilt: &mut Block16,
 ) -> u32
     requires task { IsTask task.now }
     requires writable { IsWritable task.now.context.now task.now.first
         (macroblock_of syntax.now levels.now) }
     ensures value { result ≡ squared_of task.now.source.now.at
         (rebuilt_by task.now prediction.now.at (macroblock_of syntax.now levels.now)) }
+    ensures samples { rebuilt.new.at
+        ≡ rebuilt_by task.now prediction.now.at (macroblock_of syntax.now levels.now) }
     ensures still { syntax.now.pattern ≡ 0
         → result ≡ squared_of task.now.source.now.at prediction.now.at }
     ensures most { result ≤ 49939200 }
 {
     are_bytes(&prediction.at);
+    is_whole(prediction);
+    *rebuilt = *prediction;
     if syntax.pattern == 0 {
         return squared(task.source, prediction);
     }
     let quantiser = quantiser_behind(task, syntax);
     let kinds = kinds(task.context, syntax.kind.intra, quantiser);
-    let mut rebuilt = *prediction;
-    rebuild_block(
-        &mut rebuilt,
-        levels,
-        syntax.pattern,
-        &kinds,
-        syntax.dct_field,
-    );
-    squared(task.source, &rebuilt)
+    rebuild_block(rebuilt, levels, syntax.pattern, &kinds, syntax.dct_field);
+    squared(task.source, rebuilt)
+}
+
+/// A macroblock has 384 samples.
+#[inline(always)]
+fn is_whole(samples: &Block16)
+    ensures { length samples.now.at ≡ 384 }
+{
+    let _samples = &samples.at;
 }
 
 /// The pattern of one block.
@@ -152,6 +158,9 @@ fn rebuilt_block(
     ensures value { result ≡ block_squared_of syntax.now.dct_field source.now.at
         (rebuilt_with rebuilt.old.at syntax.now (levels_of levels.now) kinds.now) block }
     ensures most { result ≤ 8323200 }
+    ensures len { length rebuilt.new.at ≡ 384 }
+    ensures own { AreAlike syntax.now.dct_field block rebuilt.new.at
+        (rebuilt_with rebuilt.old.at syntax.now (levels_of levels.now) kinds.now) }
     ensures rest { (b : ℕ) → b < 6 → b ≢ block
         → AreAlike syntax.now.dct_field b rebuilt.new.at rebuilt.old.at }
 {
@@ -178,9 +187,14 @@ fn coded_block(
         (block_squared_of syntax.now.dct_field source.now.at
         (rebuilt_with rebuilt.old.at syntax.now (levels_of levels.now) kinds.now) block) 0 }
     ensures most { result ≤ 8323200 }
+    ensures len { length rebuilt.new.at ≡ 384 }
+    ensures own { AreAlike syntax.now.dct_field block rebuilt.new.at
+        (rebuilt_with rebuilt.old.at syntax.now (levels_of levels.now) kinds.now) }
     ensures rest { (b : ℕ) → b < 6 → b ≢ block
         → AreAlike syntax.now.dct_field b rebuilt.new.at rebuilt.old.at }
 {
+    are_bytes(&rebuilt.at);
+    is_whole(rebuilt);
     if !is_coded(syntax.pattern, block as u32) {
         return 0;
     }
@@ -188,7 +202,8 @@ fn coded_block(
 }
 
 /// The squares of the coded blocks, rebuilt one after another in one copy of the prediction: they share no sample. Where
-/// eight times those of the first blocks reach a limit they are told, and no further one is rebuilt.
+/// eight times those of the first blocks reach a limit they are told, and no further one is rebuilt; else all are, and the
+/// copy is handed out.
 fn squares_until(
     source: &Block16,
     syntax: &MacroSyntax,
@@ -196,9 +211,11 @@ fn squares_until(
     prediction: &Block16,
     kinds: &[BlockKind; 2],
     limit: u64,
+    out: &mut Block16,
 ) -> u32
     requires kinds { All IsKind kinds.now }
     requires levels { All (λ l. All IsLevel l.at) levels.now }
+    requires limit { 0 < limit }
     ensures most { result ≤ coded_squared syntax.now.pattern
         (block_squared_of syntax.now.dct_field source.now.at
         (rebuilt_with prediction.now.at syntax.now (levels_of levels.now) kinds.now)) }
@@ -207,8 +224,14 @@ fn squares_until(
         (rebuilt_with prediction.now.at syntax.now (levels_of levels.now) kinds.now)))
         ⊎ (limit ≤ 8 * result) }
     ensures bound { result ≤ 49939200 }
+    ensures rebuilt { 8 * result < limit → out.new.at
+        ≡ rebuilt_with prediction.now.at syntax.now (levels_of levels.now) kinds.now }
+    ensures kept { limit ≤ 8 * result → out.new ≡ out.old }
 {
+    are_bytes(&prediction.at);
+    is_whole(prediction);
     if syntax.pattern == 0 {
+        *out = *prediction;
         return 0;
     }
     let mut rebuilt = *prediction;
@@ -219,6 +242,7 @@ fn squares_until(
             return sum;
         }
     }
+    *out = rebuilt;
     sum
 }
 
@@ -228,17 +252,20 @@ pub fn are_bytes(samples: &[u8])
     ensures { (k : ℕ) → slice_index samples.now k < 2 ^ 8 }
 {}
 
-/// The squares of a written macroblock's coded blocks, as long as eight times them lie below a limit.
+/// The squares of a written macroblock's coded blocks, as long as eight times them lie below a limit: where they do, its
+/// samples as they are rebuilt are written.
 fn coded_squares(
     task: &Task,
     syntax: &MacroSyntax,
     levels: &[Levels; 6],
     prediction: &Block16,
     limit: u64,
+    out: &mut Block16,
 ) -> u32
     requires task { IsTask task.now }
     requires writable { IsWritable task.now.context.now task.now.first
         (macroblock_of syntax.now levels.now) }
+    requires limit { 0 < limit }
     ensures most { result ≤ coded_squared syntax.now.pattern
         (block_squared_of syntax.now.dct_field task.now.source.now.at
         (rebuilt_by task.now prediction.now.at (macroblock_of syntax.now levels.now))) }
@@ -247,10 +274,13 @@ fn coded_squares(
         (rebuilt_by task.now prediction.now.at (macroblock_of syntax.now levels.now))))
         ⊎ (limit ≤ 8 * result) }
     ensures bound { result ≤ 49939200 }
+    ensures rebuilt { 8 * result < limit → out.new.at
+        ≡ rebuilt_by task.now prediction.now.at (macroblock_of syntax.now levels.now) }
+    ensures kept { limit ≤ 8 * result → out.new ≡ out.old }
 {
     let quantiser = quantiser_behind(task, syntax);
     let kinds = kinds(task.context, syntax.kind.intra, quantiser);
-    squares_until(task.source, syntax, levels, prediction, &kinds, limit)
+    squares_until(task.source, syntax, levels, prediction, &kinds, limit, out)
 }
 
 /// How many bits a written macroblock takes.
@@ -268,13 +298,14 @@ pub fn bits_of(task: &Task, syntax: &MacroSyntax, levels: &[Levels; 6]) -> u32
 }
 
 impl Best {
-    /// Takes a written candidate in the place of the best so far.
+    /// Takes a written candidate in the place of the best so far, but for its samples.
     #[inline(always)]
     fn take(&mut self, syntax: &MacroSyntax, levels: &[Levels; 6], bits: u32, score: u64)
         ensures skip { self.new.choice.skip ≡ false }
         ensures syntax { self.new.choice.syntax ≡ syntax.now }
         ensures levels { self.new.choice.levels ≡ levels.now }
         ensures bits { self.new.choice.bits ≡ bits }
+        ensures samples { self.new.choice.samples ≡ self.old.choice.samples }
         ensures below { self.new.below ≡ score }
     {
         self.choice.skip = false;
@@ -341,22 +372,24 @@ impl Best {
         if cost >= self.below {
             return;
         }
-        let squares = coded_squares(task, syntax, levels, prediction, self.below - cost);
+        let limit = self.below - cost;
+        let rebuilt = &mut self.choice.samples;
+        let squares = coded_squares(task, syntax, levels, prediction, limit, rebuilt);
         let score = 8 * u64::from(squares) + cost;
         if score < self.below {
             self.take(syntax, levels, bits, score);
         }
     }
 
-    /// Tries to skip the macroblock, whose prediction has these squares.
-    pub fn try_skipped(&mut self, task: &Task, squares: u32)
+    /// Tries to skip the macroblock, whose prediction has these samples, and these squares.
+    pub fn try_skipped(&mut self, task: &Task, prediction: &Block16, squares: u32)
         requires task { IsTask task.now }
         requires most { squares ≤ 49939200 }
-        ensures tried { (r : References) (prediction : List ℕ)
-            → prediction ≡ block_by
+        ensures tried { (r : References)
+            → prediction.now.at ≡ block_by
             (predicted r.forward r.backward
             (skipped_mode task.now.context.now task.now.state.now) (place_of (decided r task.now)))
-            → squares ≡ squared_of task.now.source.now.at prediction
+            → squares ≡ squared_of task.now.source.now.at prediction.now.at
             → IsRated (decided r task.now) self.old
             → Tried (decided r task.now) self.old self.new (skipped ∷ []) }
     {
@@ -365,6 +398,7 @@ impl Best {
             let syntax = MacroSyntax::blank();
             self.take(&syntax, no_levels(), 0, score);
             self.choice.skip = true;
+            self.choice.samples = *prediction;
         }
     }
 
@@ -391,7 +425,8 @@ impl Best {
         ensures most { result ≤ 49939200 }
     {
         let bits = bits_of(task, syntax, levels);
-        let squares = rebuilt_squares(task, syntax, levels, prediction);
+        let rebuilt = &mut self.choice.samples;
+        let squares = rebuilt_squares(task, syntax, levels, prediction, rebuilt);
         let score = 8 * u64::from(squares) + bit_cost(task.limits, bits);
         self.take(syntax, levels, bits, score);
         squares

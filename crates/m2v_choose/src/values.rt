@@ -1,4 +1,5 @@
 use m2v_macro::MacroSyntax;
+use m2v_pred::Block16;
 use m2v_quant::Levels;
 
 /// What the choice of a macroblock keeps to, and where the macroblock stands.
@@ -23,7 +24,7 @@ pub struct Limits {
 /// What was chosen for a macroblock.
 #[derive(Clone, Copy)]
 pub struct Choice {
-    /// It is skipped, and nothing is written: then the rest is blank, and 0.
+    /// It is skipped, and nothing is written: then its elements are blank, its levels and its bits 0.
     pub skip: bool,
     /// Its elements up to the pattern.
     pub syntax: MacroSyntax,
@@ -31,4 +32,6 @@ pub struct Choice {
     pub levels: [Levels; 6],
     /// How many bits all of it takes.
     pub bits: u32,
+    /// Its samples as a decoder rebuilds them.
+    pub samples: Block16,
 }

@@ -2,14 +2,14 @@
 ghost use Rattle.std.specs.Prelude.{◌≡◌, ◌≢◌, nat_lt, not, if◌then◌else◌, [], ◌∷◌, false, pos};
 ghost use Rattle.m2v_pred.specs.Motion.{field_lines};
 ghost use Rattle.m2v_search.specs.Near.{IsFormIn};
-ghost use Rattle.m2v_search.specs.declared.form.SearchForm.TheVariants.{FieldLines, FieldPicture};
+ghost use Rattle.m2v_search.specs.declared.form.SearchForm.TheVariants.{FieldPicture};
 ghost use Rattle.m2v_choose.specs.Candidates.{vector_for, sad_for, from_field, plain_direction as plain_direction_of, field_direction as field_direction_of};
 ghost use Rattle.m2v_choose.specs.Trials.{References, decided, IsTask, IsRead, place_for, selected_by, direction_by};
 
 use crate::task::Task;
 use m2v_plane::{Lines, RefView};
 use m2v_pred::MbPlace;
-use m2v_search::{Found, SearchForm, SearchScratch, best_vector_in};
+use m2v_search::{Found, SearchForm, SearchScratch, best_field_vectors_in, best_vector_in};
 
 /// A vector, and whether it is that of the bottom field of its reference.
 #[derive(Clone, Copy)]
@@ -141,42 +141,6 @@ fn field_picture<V: RefView>(
     better(&same, &other, bottom)
 }
 
-/// The vector of the top or the bottom lines of a frame, in the one or the other reference field.
-fn field_of_frame<V: RefView>(
-    task: &Task,
-    view: &V,
-    bottom: bool,
-    scratch: &mut SearchScratch,
-) -> FieldVector
-    requires task { IsTask task.now }
-    requires view { IsRead (V.size view.now) (V.Holds view.now) (place_for task.now) }
-    requires structure { task.now.context.now.extension.structure ≡ 3 }
-    ensures value { (r : References) → r.dims ≡ V.size view.now
-        → selected_by result ≡ from_field (decided r task.now) (V.at view.now)
-        (FieldLines (field_lines bottom)) (field_lines bottom) }
-{
-    let target = field(bottom);
-    let same = search(
-        task,
-        view,
-        SearchForm::FieldLines {
-            target,
-            reference: field(bottom),
-        },
-        scratch,
-    );
-    let other = search(
-        task,
-        view,
-        SearchForm::FieldLines {
-            target,
-            reference: other_field(bottom),
-        },
-        scratch,
-    );
-    better(&same, &other, bottom)
-}
-
 /// One vector: of the whole frame in a frame picture, of a reference field in a field picture.
 #[tactic(auto, unfolding(crate::specs::Candidates::plain_direction))]
 pub fn plain_direction<V: RefView>(task: &Task, view: &V, scratch: &mut SearchScratch) -> Vectors
@@ -207,8 +171,15 @@ pub fn field_direction<V: RefView>(task: &Task, view: &V, scratch: &mut SearchSc
     ensures value { (r : References) → r.dims ≡ V.size view.now
         → direction_by result ≡ field_direction_of (decided r task.now) (V.at view.now) }
 {
+    let found = best_field_vectors_in(
+        task.source,
+        view,
+        place_of(task),
+        task.limits.search,
+        scratch,
+    );
     Vectors {
-        first: field_of_frame(task, view, false, scratch),
-        second: field_of_frame(task, view, true, scratch),
+        first: better(&found.top_in_top, &found.top_in_bottom, false),
+        second: better(&found.bottom_in_bottom, &found.bottom_in_top, true),
     }
 }

@@ -1,26 +1,31 @@
 //! The best place of a window: in whole samples first, and then half a sample around it.
-ghost use Rattle.std.specs.Prelude.{◌≡◌, ◌+◌, ◌*◌, ◌≤◌, ◌<◌, ◌⊎◌, length};
-ghost use Rattle.m2v_search.specs.Spots.{spot_sad, whole_spot, half_spot, IsNear};
+ghost use Rattle.std.specs.Prelude.{◌≡◌, ◌+◌, ◌-◌, ◌*◌, ◌≤◌, ◌⊎◌, length, slice_index};
+ghost use Rattle.m2v_search.specs.Bounds.{AreSumsFor};
+ghost use Rattle.m2v_search.specs.Spots.{spot_sad, span_of, whole_spot, half_spot, IsNear};
 
 use crate::difference::sad_of;
 use crate::passing::best_by_bounds;
 use crate::scan::best_of;
-use crate::scratch::{Likely, SearchScratch, with_found};
+use crate::scratch::{Likely, Surroundings, with_found};
 use crate::spot::{Area, Best, Places, Spot, within_reach};
 
-/// The best place of the window: of all in whole samples, and then of those half a sample around it.
+/// The best place of the window: of all in whole samples, and then of those half a sample around it. The one in whole
+/// samples is a likely place for later searches.
 pub fn best_spot(
     block: &[u8],
     count: u32,
-    scratch: &mut SearchScratch,
+    around: &Surroundings,
     area: Area,
     across: u32,
     down: u32,
-    kind: usize,
+    likely: &mut Likely,
 ) -> Best
     requires count { (count ≡ 8) ⊎ (count ≡ 16) }
     requires block { length block.now ≡ 16 * count }
-    requires window { length scratch.old.window ≡ 2304 }
+    requires window { length around.now.window ≡ 2304 }
+    requires sums { let lines = span_of count down area.top area.bottom count in
+        AreSumsFor count (slice_index around.now.window) lines.first (lines.end + count - 8)
+        (slice_index around.now.sums) }
     requires across { across ≤ 15 }
     requires down { down + 1 ≤ count }
     requires top { area.top ≤ count }
@@ -29,19 +34,17 @@ pub fn best_spot(
     requires right { 32 ≤ area.right }
     requires high { area.bottom ≤ 3 * count }
     requires wide { area.right ≤ 48 }
-    requires kind { kind < 6 }
-    ensures spot { result.spot ≡ half_spot (spot_sad block.now count scratch.old.window) count area
-        (whole_spot (spot_sad block.now count scratch.old.window) count area across down) }
-    ensures sad { result.sad ≡ spot_sad block.now count scratch.old.window result.spot }
+    ensures spot { result.spot ≡ half_spot (spot_sad block.now count around.now.window) count area
+        (whole_spot (spot_sad block.now count around.now.window) count area across down) }
+    ensures sad { result.sad ≡ spot_sad block.now count around.now.window result.spot }
     ensures near { IsNear count area (2 * across + 1) (2 * down + 1) result.spot }
 {
-    let likely = scratch.likely[kind];
-    let best = best_whole(block, count, scratch, area, across, down, likely);
-    scratch.likely[kind] = with_found(likely, best.spot);
+    let best = best_whole(block, count, around, area, across, down, *likely);
+    *likely = with_found(*likely, best.spot);
     best_half(
         block,
         count,
-        &scratch.window,
+        &around.window,
         area,
         2 * across,
         2 * down,
@@ -53,7 +56,7 @@ pub fn best_spot(
 fn best_whole(
     block: &[u8],
     count: u32,
-    scratch: &mut SearchScratch,
+    around: &Surroundings,
     area: Area,
     across: u32,
     down: u32,
@@ -61,7 +64,10 @@ fn best_whole(
 ) -> Best
     requires count { (count ≡ 8) ⊎ (count ≡ 16) }
     requires block { length block.now ≡ 16 * count }
-    requires window { length scratch.old.window ≡ 2304 }
+    requires window { length around.now.window ≡ 2304 }
+    requires sums { let lines = span_of count down area.top area.bottom count in
+        AreSumsFor count (slice_index around.now.window) lines.first (lines.end + count - 8)
+        (slice_index around.now.sums) }
     requires across { across ≤ 15 }
     requires down { down + 1 ≤ count }
     requires top { area.top ≤ count }
@@ -70,11 +76,10 @@ fn best_whole(
     requires right { 32 ≤ area.right }
     requires high { area.bottom ≤ 3 * count }
     requires wide { area.right ≤ 48 }
-    ensures spot { result.spot ≡ whole_spot (spot_sad block.now count scratch.old.window) count area
+    ensures spot { result.spot ≡ whole_spot (spot_sad block.now count around.now.window) count area
         across down }
-    ensures sad { result.sad ≡ spot_sad block.now count scratch.old.window result.spot }
+    ensures sad { result.sad ≡ spot_sad block.now count around.now.window result.spot }
     ensures near { IsNear count area (2 * across) (2 * down) result.spot }
-    ensures same { scratch.new.window ≡ scratch.old.window }
 {
     let spot = Spot {
         y: 2 * count,
@@ -82,12 +87,12 @@ fn best_whole(
     };
     let best = Best {
         spot,
-        sad: sad_of(block, count as usize, &scratch.window, spot),
+        sad: sad_of(block, count as usize, &around.window, spot),
     };
     let lines = within_reach(count, down, area.top, area.bottom, count);
     let columns = within_reach(16, across, area.left, area.right, 16);
     let places = Places { lines, columns };
-    best_by_bounds(block, count as usize, scratch, places, likely, best)
+    best_by_bounds(block, count as usize, around, places, likely, best)
 }
 
 /// The best place half a sample around one, that one first.

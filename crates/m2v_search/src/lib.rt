@@ -21,4 +21,4 @@ mod window;
 pub use form::SearchForm;
 pub use laws::law_first_least;
 pub use scratch::SearchScratch;
-pub use vector::{Found, best_vector, best_vector_in};
+pub use vector::{FieldsFound, Found, best_field_vectors_in, best_vector, best_vector_in};

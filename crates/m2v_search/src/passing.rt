@@ -10,8 +10,7 @@ use crate::difference::spot_sad_until;
 use crate::far::line_bounds;
 use crate::marks::{bits_from, next_mark};
 use crate::parts::block_parts;
-use crate::scratch::{Likely, SearchScratch};
-use crate::sliding::put_sums;
+use crate::scratch::{Likely, Surroundings};
 use crate::spot::{Best, Places, Span, Spot};
 
 /// The best place so far, and below what another one must lie to be better: its difference and a limit, the lower of both.
@@ -240,28 +239,26 @@ fn limit_for(
 pub fn best_by_bounds(
     block: &[u8],
     count: usize,
-    scratch: &mut SearchScratch,
+    around: &Surroundings,
     places: Places,
     likely: Likely,
     best: Best,
 ) -> Best
     requires count { (count ≡ 8) ⊎ (count ≡ 16) }
     requires block { length block.now ≡ 16 * count }
-    requires window { length scratch.old.window ≡ 2304 }
+    requires window { length around.now.window ≡ 2304 }
+    requires sums { AreSumsFor count (slice_index around.now.window) places.lines.first
+        (places.lines.end + count - 8) (slice_index around.now.sums) }
     requires lines { places.lines.first < places.lines.end }
     requires columns { places.columns.first < places.columns.end }
     requires y { places.lines.end ≤ 2 * count }
     requires x { places.columns.end ≤ 32 }
-    requires known { best.sad ≡ spot_sad block.now count scratch.old.window best.spot }
-    ensures spot { result.spot ≡ least (spot_sad block.now count scratch.old.window) best.spot
+    requires known { best.sad ≡ spot_sad block.now count around.now.window best.spot }
+    ensures spot { result.spot ≡ least (spot_sad block.now count around.now.window) best.spot
         (spots 2 places.lines places.columns) }
-    ensures sad { result.sad ≡ spot_sad block.now count scratch.old.window result.spot }
-    ensures same { scratch.new.window ≡ scratch.old.window }
+    ensures sad { result.sad ≡ spot_sad block.now count around.now.window result.spot }
 {
-    let SearchScratch { window, sums, .. } = scratch;
+    let Surroundings { window, sums } = around;
     let limit = limit_for(block, count, window, places, likely, best);
-    let first = places.lines.first as usize;
-    let end = places.lines.end as usize + count - 8;
-    put_sums(window, count, first, end, sums);
     passed(block, count, window, sums, places, limit, best)
 }

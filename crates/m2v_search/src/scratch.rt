@@ -11,14 +11,34 @@ pub struct Likely {
     pub before: Spot,
 }
 
-/// Room for the samples around a macroblock and for sums over its parts at each place. A search reads of these only what
-/// it has written, so one serves any number of searches, and none clears it.
+/// The samples around a macroblock in a reference frame or field, and the sums over parts of its size at each place there.
+#[derive(Drop)]
+pub struct Surroundings {
+    /// The samples, 48 lines of 48.
+    pub window: [u8; 2304],
+    /// The sums, 40 lines of 48.
+    pub sums: [u16; 1920],
+}
+
+impl Surroundings {
+    /// Room for them.
+    #[inline(always)]
+    fn new() -> Surroundings {
+        Surroundings {
+            window: [0; 2304],
+            sums: [0; 1920],
+        }
+    }
+}
+
+/// Room for what searches look at. A search reads of it only what it has written, so one serves any number of searches, and
+/// none clears it.
 #[derive(Drop)]
 pub struct SearchScratch {
-    /// The samples around the macroblock, 48 lines of 48.
-    pub window: [u8; 2304],
-    /// The sums over parts at each place, 40 lines of 48.
-    pub sums: [u16; 1920],
+    /// What is around the macroblock in the reference, or in its top field where both fields are searched.
+    pub around: Surroundings,
+    /// What is around it in the bottom field where both are searched.
+    pub bottom: Surroundings,
     /// Likely places, by the kind of search.
     pub likely: [Likely; 6],
 }
@@ -33,8 +53,8 @@ impl SearchScratch {
             before: corner,
         };
         SearchScratch {
-            window: [0; 2304],
-            sums: [0; 1920],
+            around: Surroundings::new(),
+            bottom: Surroundings::new(),
             likely: [none, none, none, none, none, none],
         }
     }

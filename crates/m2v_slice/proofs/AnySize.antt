@@ -5,7 +5,7 @@ use Rattle.m2v_plane.specs.declared.dims.Dims.{Dims}
 use Rattle.m2v_choose.specs.m2v_search.Least.{least}
 use Rattle.m2v_choose.specs.Decisions.{Decision, Candidate, increment_of, intra_syntax, uncoded_syntax, levels_by}
 use Rattle.m2v_choose.specs.Candidates.{hold, held_levels, may_skip, codings, codings_at, intra_by, others}
-use Rattle.m2v_choose.specs.Choice.{bits_taken, candidate_at, score, fits, choice_of}
+use Rattle.m2v_choose.specs.Choice.{bits_taken, candidate_at, samples_of, score, fits, choice_of}
 use Rattle.m2v_choose.proofs.InsideLaws.{no_predictions}
 
 sized : Dims → Decision → Decision
@@ -60,3 +60,7 @@ same_choice x d h = elim (cases_eq d.context.kind 1) [
 pub same_hold : (x : Dims) (d : Decision) → bits_taken (record d { dims = x }) (hold (record d { dims = x })) ≡ bits_taken d (hold d)
 unfolding sized bits_taken
 same_hold x d = ap (bits_taken d) (same_hold_ x d)
+
+pub same_samples : (x : Dims) (d : Decision) (y : Candidate) → samples_of (record d { dims = x }) y ≡ samples_of d y
+unfolding candidate_at
+same_samples x d y = refl

@@ -28,6 +28,7 @@ pub mod Works
 pub mod Planned
 pub mod Parts
 pub mod Stands
+pub mod KeptLines
 pub mod Existing
 pub mod Near
 pub mod Slices

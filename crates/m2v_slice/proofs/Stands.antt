@@ -12,6 +12,7 @@ use Rattle.m2v_plane.proofs.Places.{part_of-le}
 use Rattle.m2v_set.specs.Numbers.{dims_of}
 use Rattle.m2v_slice.specs.declared.window.Stand.TheVariants.{Before, Cached, Absent}
 use Rattle.m2v_slice.specs.Books.{Book, job_at, line_in, coded, slice_at, reference_picture, picture_sample, reference}
+use Rattle.m2v_slice.specs.Kept.{kept_at}
 use Rattle.m2v_slice.specs.Cached as cached
 use Rattle.m2v_slice.specs.Conditions.{IsBook}
 use Rattle.m2v_slice.specs.Jobs.{FitsCache}
@@ -119,6 +120,19 @@ line_small d Y lines line h lt = omega (arith, lt, part_of-le lines (16 * d.mb_r
 line_small d Cb lines line h lt = omega (arith, lt, part_of-le lines (8 * d.mb_rows), h.mb_rows)
 line_small d Cr lines line h lt = omega (arith, lt, part_of-le lines (8 * d.mb_rows), h.mb_rows)
 
+-- a line among those of all rows, by its place in a picture
+kept_row_is : (plane : Plane) (place first there at : ℕ) → at + side plane * first ≡ there + side plane * place → first ≤ there / side plane
+    → at / side plane ≡ place + (there / side plane - first)
+kept_row_is Y place first there at e le = omega (arith, e, le)
+kept_row_is Cb place first there at e le = omega (arith, e, le)
+kept_row_is Cr place first there at e le = omega (arith, e, le)
+
+kept_line_is : (plane : Plane) (place first there at : ℕ) → at + side plane * first ≡ there + side plane * place → first ≤ there / side plane
+    → at % side plane ≡ there % side plane
+kept_line_is Y place first there at e le = omega (arith, e, le)
+kept_line_is Cb place first there at e le = omega (arith, e, le)
+kept_line_is Cr place first there at e le = omega (arith, e, le)
+
 module _ (b : Book) (p r : ℕ) (c : cached.Cached) (near : AreNearRows b p r c.rows) (fits : FitsCache b c)
     (o : Option ℕ) (place : ℕ) (whole : Bool) (plane : Plane) (lines : Lines) (line : ℕ) (h : InCache b p r o place whole plane lines line) where
   abbrev line_there : ℕ
@@ -180,3 +194,21 @@ module _ (b : Book) (p r : ℕ) (c : cached.Cached) (near : AreNearRows b p r c.
       ∙ ap (λ (s : Samples). line_part (sample_of s plane (line_there % side plane)) column len) row_held
       ∙ ap (λ (l : ℕ). line_part (sample_of (slice_at (coded b p) h.picture (l / side plane)).row plane (l % side plane)) column len) line_there_is
       ∙ sym (ap (λ (x : Option ℕ). line_part (picture_sample b (coded b p) x plane lines line) column len) (is ∙ h.found))
+
+  -- ---- among the lines of all rows
+
+  pub kept_below : (first there at : ℕ) → first ≡ first_near r → there ≡ line_there → at + side plane * first ≡ there + side plane * place
+      → at / side plane < length c.rows
+  kept_below first there at e f g =
+      let held = held_line first there e f in
+      omega (arith, held.most, kept_row_is plane place first there at g held.least)
+
+  pub kept_value : (n first there at column len : ℕ) → first ≡ first_near r → there ≡ line_there → at + side plane * first ≡ there + side plane * place
+      → reference_picture b p n lines ≡ o
+      → line_part (kept_at c.rows plane at) column len ≡ line_part (reference b (coded b p) p n plane lines line) column len
+  kept_value n first there at column len e f g is =
+      let held = held_line first there e f in
+      ap (λ (k : ℕ). line_part (sample_of (get_or c.rows k no_samples) plane (at % side plane)) column len) (kept_row_is plane place first there at g held.least)
+      ∙ ap (λ (l : ℕ). line_part (sample_of (get_or c.rows (place + (there / side plane - first)) no_samples) plane l) column len)
+      (kept_line_is plane place first there at g held.least)
+      ∙ held_value n first there column len e f is

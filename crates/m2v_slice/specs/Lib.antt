@@ -3,6 +3,7 @@ pub mod Laws
 pub mod Steps
 pub mod Headers
 pub mod Books
+pub mod Kept
 pub mod Cached
 pub mod Jobs
 pub mod Conditions

@@ -1,12 +1,12 @@
 //! What a worker keeps of the jobs that it learned of.
 ghost use Rattle.std.specs.Prelude.{◌≡◌, ◌+◌, ◌-◌, ◌^◌, ◌<◌, ◌≤◌, All, IfOk, length, min, slice_index_or, slice_set};
-ghost use Rattle.m2v_plane.specs.Sizes.{IsSize};
 ghost use Rattle.m2v_plane.specs.Samples.{Samples};
 ghost use Rattle.m2v_plane.specs.Fields.{no_samples};
 ghost use Rattle.m2v_set.specs.Numbers.{dims_of};
 
+use crate::kept::KeptRows;
 use m2v_core::Memory;
-use m2v_plane::{Dims, RowSamples};
+use m2v_plane::RowSamples;
 use m2v_rate::{Ledger, Plan};
 use m2v_set::Passed;
 use std::alloc::Global;
@@ -20,11 +20,10 @@ pub struct EncodeCache {
     ledger: Ledger,
     bits: u64,
     work: u64,
-    rows: Vec<RowSamples>,
+    rows: KeptRows,
 }
 
 impl Model for EncodeCache {
-    ghost use Rattle.std.specs.Prelude.{◌≤◌, length};
     ghost use Rattle.m2v_slice.specs.Cached.{Cached};
 
     ghost Value = { Cached };
@@ -34,24 +33,8 @@ impl Model for EncodeCache {
       ledger = c.ledger;
       bits = c.bits;
       work = c.work;
-      rows = c.rows.items;
+      rows = c.rows;
     } };
-
-    ghost invariant = { λ c. length c.rows.items ≤ 12 };
-}
-
-/// So many rows of samples 0.
-fn blank_rows(alloc: Global, dims: Dims, count: u32) -> Result<Vec<RowSamples>, Memory>
-    requires size { IsSize dims }
-    ensures count { IfOk result (λ v. length v.items ≡ count) }
-    ensures size { IfOk result (λ v. All (λ (row : Samples). row.dims ≡ dims) v.items) }
-{
-    let mut rows = Vec::new(alloc);
-    for _i in 0..count {
-        let row = RowSamples::blank(alloc, dims)?;
-        rows.push(row)?;
-    }
-    Ok(rows)
 }
 
 impl EncodeCache {
@@ -65,7 +48,7 @@ impl EncodeCache {
         ensures size { IfOk result
             (λ c. All (λ (row : Samples). row.dims ≡ dims_of settings.now) c.rows) }
     {
-        let rows = blank_rows(alloc, settings.dims(), 12)?;
+        let rows = KeptRows::blank(alloc, settings.dims())?;
         Ok(EncodeCache {
             plan: Plan {
                 q: 0,
@@ -107,13 +90,12 @@ impl EncodeCache {
         self.work
     }
 
-    /// A row of a reference picture.
+    /// The rows of reference pictures.
     #[inline(always)]
-    pub(crate) fn row(&self, k: u32) -> &RowSamples
-        requires place { k < length self.now.rows }
-        ensures value { result.now ≡ slice_index_or self.now.rows k no_samples }
+    pub(crate) fn kept(&self) -> &KeptRows
+        ensures value { result.now ≡ self.now.rows }
     {
-        &self.rows[k as usize]
+        &self.rows
     }
 
     /// Takes a plan and the ledger that knows it, and begins to count bits and work.
@@ -144,7 +126,7 @@ impl EncodeCache {
         requires same { row.now.dims ≡ (slice_index_or self.old.rows k no_samples).dims }
         ensures value { self.new ≡ record self.old { rows = slice_set self.old.rows k row.now } }
     {
-        self.rows[k as usize].copy_from(row);
+        self.rows.set(k, row);
     }
 
     /// How many rows of reference pictures it has room for, at most 12: three for each of at most four pictures.
@@ -152,6 +134,6 @@ impl EncodeCache {
         ensures value { result ≡ length self.now.rows }
         ensures most { result ≤ 12 }
     {
-        self.rows.len() as u32
+        self.rows.count()
     }
 }

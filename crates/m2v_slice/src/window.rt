@@ -1,5 +1,5 @@
 //! The view of a reference that a slice is coded by: rows of a cache, and the anchor before the group.
-ghost use Rattle.std.specs.Prelude.{ℕ, ◌≡◌, ◌+◌, ◌-◌, ◌*◌, ◌/◌, ◌%◌, ◌<◌, ◌≤◌, [], IsSome, IfSome, IfNone, if◌then◌else◌, length, slice_index, slice_index_or, Option};
+ghost use Rattle.std.specs.Prelude.{ℕ, ◌≡◌, ◌+◌, ◌-◌, ◌*◌, ◌/◌, ◌%◌, ◌<◌, ◌≤◌, [], IsSome, IfSome, IfNone, if◌then◌else◌, drop, length, take, slice_index, slice_index_or, Option};
 ghost use Rattle.m2v_plane.specs.Sizes.{side, frame_line, lines_of, columns_of};
 ghost use Rattle.m2v_plane.specs.Samples.{sample_of, sample_in, line_part};
 ghost use Rattle.m2v_plane.specs.Fields.{no_samples, or_none};
@@ -13,7 +13,7 @@ ghost use Rattle.m2v_slice.specs.Stands.{StandsFor, IsHeldLine};
 use crate::book::EncodeBook;
 use crate::cache::EncodeCache;
 use m2v_core::NeedList;
-use m2v_plane::{Dims, Frame, Lines, Plane, RefView};
+use m2v_plane::{Dims, Frame, Lines, Plane, RefView, Window};
 use std::marker::Model;
 
 /// Where the lines of a reference stand.
@@ -174,17 +174,6 @@ impl<'a> ReferenceWindow<'a> {
     }
 }
 
-/// The lines of a macroblock in a plane.
-#[inline(always)]
-fn side_of(plane: Plane) -> u32
-    ensures value { result ≡ side plane }
-{
-    match plane {
-        Plane::Y => 16,
-        Plane::Cb | Plane::Cr => 8,
-    }
-}
-
 /// The line of a picture that a line of the frame or of a field is.
 #[inline(always)]
 fn line_among(whole: bool, lines: Lines, line: u32) -> u32
@@ -223,6 +212,61 @@ fn line_before(
     }
 }
 
+/// Parts of lines of the anchor before the group, lent at once.
+#[inline(always)]
+fn window_before(
+    before: &Option<Frame>,
+    plane: Plane,
+    lines: Lines,
+    line: u32,
+    count: u32,
+    column: u32,
+    len: u32,
+) -> Option<Window<'_>>
+    requires some { 1 ≤ count }
+    requires lines { IfSome before.now
+        (λ f. (k : ℕ) → k < count → line + k < lines_of f.dims plane lines) }
+    requires within { IfSome before.now (λ f. column + len ≤ columns_of f.dims plane) }
+    ensures fits { IfSome result (λ w. (count - 1) * w.stride + len ≤ length w.samples.now) }
+    ensures value { IfSome result (λ w. (k : ℕ) → k < count
+        → take len (drop (k * w.stride) w.samples.now)
+        ≡ line_part (sample_in (or_none before.now) plane lines (line + k)) column len) }
+{
+    match before {
+        Some(frame) => frame.window(plane, lines, line, count, column, len),
+        None => None,
+    }
+}
+
+/// How far behind each other, among the lines of a picture, lines of the frame or of a field stand.
+#[inline(always)]
+fn step_among(whole: bool, lines: Lines) -> u32
+    ensures most { result ≤ 2 }
+    ensures value { (line k : ℕ) → (if whole then frame_line lines (line + k) else line + k)
+        ≡ (if whole then frame_line lines line else line) + k * result }
+{
+    if !whole {
+        return 1;
+    }
+    match lines {
+        Lines::Whole => 1,
+        Lines::Top | Lines::Bottom => 2,
+    }
+}
+
+/// The line among those of a cache's rows that a line of a picture is, `first` being the first of the rows from `place` on.
+#[inline(always)]
+fn line_kept(place: u32, first: u32, plane: Plane, line: u32) -> u32
+    requires least { first ≤ line / side plane }
+    requires most { place + (line / side plane - first) < 12 }
+    ensures value { result + side plane * first ≡ line + side plane * place }
+{
+    match plane {
+        Plane::Y => line - 16 * first + 16 * place,
+        Plane::Cb | Plane::Cr => line - 8 * first + 8 * place,
+    }
+}
+
 /// A part of a line that stands in a cache, `first` being the first of the rows from `place` on.
 #[inline(always)]
 fn line_cached(
@@ -240,10 +284,8 @@ fn line_cached(
     ensures value { result.now ≡ line_part (sample_of (slice_index_or cache.now.rows
         (place + (line / side plane - first)) no_samples) plane (line % side plane)) column len }
 {
-    let side = side_of(plane);
-    cache
-        .row(place + (line / side - first))
-        .line(plane, line % side, column, len)
+    let line = line_kept(place, first, plane, line);
+    cache.kept().line(plane, line, column, len)
 }
 
 impl<'a> RefView for ReferenceWindow<'a> {
@@ -269,6 +311,33 @@ impl<'a> RefView for ReferenceWindow<'a> {
                 line_cached(self.cache(), place, self.first(), plane, line, column, len)
             }
             Stand::Absent => &[],
+        }
+    }
+
+    #[inline(always)]
+    fn window(
+        &self,
+        plane: Plane,
+        lines: Lines,
+        line: u32,
+        count: u32,
+        column: u32,
+        len: u32,
+    ) -> Option<Window<'_>> {
+        // a frame has at most 72 macroblock rows
+        let _size = self.dims();
+        match self.stand(lines) {
+            Stand::Before => {
+                let before = self.book().before();
+                window_before(before, plane, lines, line, count, column, len)
+            }
+            Stand::Cached { place, whole } => {
+                let rows = self.cache().kept();
+                let (line, step) = (line_among(whole, lines, line), step_among(whole, lines));
+                let there = line_kept(place, self.first(), plane, line);
+                Some(rows.window(plane, there, step, count, column, len))
+            }
+            Stand::Absent => None,
         }
     }
 

@@ -25,6 +25,18 @@ returns-clause-most c =
     ap (rebuilt_with p m ls) (c.kinds-kinds.ensures.value ∙ ap q c.quantiser_behind-quantiser.ensures.value) in
     subst (λ (x : List ℕ). c.squares_until.result ≤ coded_squared m.pattern (block_squared m.dct_field t.source.now.at x)) same c.squares_until.ensures.most
 
+pub returns-clause-rebuilt : goal.returns-clause-rebuilt
+unfolding rebuilt_by sample_at after
+returns-clause-rebuilt c = λ less.
+    let t = c.args.task.now in
+    let m = c.args.syntax.now in
+    let ls = levels_of c.args.levels.now in
+    let p = c.args.prediction.now.at in
+    let q = λ (n : ℕ). kind_for t.context.now m.kind.intra true n ∷ kind_for t.context.now m.kind.intra false n ∷ [] in
+    let same : rebuilt_with p m ls c.kinds-kinds.result ≡ rebuilt_by t p (macroblock_of m c.args.levels.now) =
+    ap (rebuilt_with p m ls) (c.kinds-kinds.ensures.value ∙ ap q c.quantiser_behind-quantiser.ensures.value) in
+    c.squares_until.ensures.rebuilt less ∙ same
+
 pub returns-clause-enough : goal.returns-clause-enough
 unfolding rebuilt_by sample_at after
 returns-clause-enough c =

@@ -9,6 +9,7 @@ use Rattle.m2v_pred.specs.Predicted.{block_by}
 use Rattle.m2v_choose.specs.Choice.{squared}
 use Rattle.m2v_choose.specs.Trials.{rebuilt_by}
 use Rattle.m2v_choose.proofs.PartSquares.{still_squares}
+use Rattle.m2v_choose.proofs.Alike.{still_samples}
 use Rattle.m2v_choose.proofs.Tried.{own_picture, each_level}
 use Rattle.m2v_choose.proofs.trial.rebuilt_squares.Goals as goal
 
@@ -28,11 +29,21 @@ returns-clause-value c =
     c.squared-2.ensures.value
     ∙ ap (squared t.source.now.at) (c.rebuild_block.ensures.value ∙ ap by (c.kinds-kinds.ensures.value ∙ ap q c.quantiser_behind-quantiser.ensures.value))
 
+pub returns-clause-samples : goal.returns-clause-samples
+unfolding rebuilt_by sample_at after
+returns-clause-samples c =
+    let t = c.args.task.now in
+    let m = c.args.syntax.now in
+    let by = λ (kinds : List BlockKind). block_by (macro_sample c.args.prediction.now.at (levels_of c.args.levels.now) m.pattern (kind_at kinds 0) (kind_at kinds 1) m.dct_field) in
+    let q = λ (n : ℕ). kind_for t.context.now m.kind.intra true n ∷ kind_for t.context.now m.kind.intra false n ∷ [] in
+    c.rebuild_block.ensures.value ∙ ap by (c.kinds-kinds.ensures.value ∙ ap q c.quantiser_behind-quantiser.ensures.value)
+
 pub returns-then-syntax-eq0 : goal.returns-then-syntax-eq0
 returns-then-syntax-eq0 c =
     let none : c.args.syntax.now.pattern ≡ 0 = omega arith in
     record {
       value = c.squared.ensures.value ∙ sym (still_squares c.args.task.now c.args.prediction.now.at c.args.syntax.now (levels_of c.args.levels.now) c.are_bytes.ensures none);
+      samples = still_samples c.args.task.now c.args.prediction.now.at c.args.syntax.now (levels_of c.args.levels.now) c.is_whole.ensures c.are_bytes.ensures none;
       still = λ e. c.squared.ensures.value;
       most = c.squared.ensures.most;
     }

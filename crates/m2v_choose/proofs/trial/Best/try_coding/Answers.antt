@@ -1,13 +1,17 @@
 use Rattle.std.proofs.lemmas.List.Elements.{All-map}
 use Rattle.m2v_quant.specs.Kinds.{IsLevel}
 use Rattle.m2v_quant.specs.declared.kind.Levels.{Levels}
-use Rattle.std.proofs.Common.{false, All, [], ◌∷◌, Bool, ◌≡◌, ◌<◌, ap, sym, ◌∙◌, subst, arith}
+use Rattle.std.proofs.Common.{true, false, ℕ, ◌*◌, All, [], ◌∷◌, Bool, ◌≡◌, ◌<◌, refl, ap, sym, ◌∙◌, subst, arith}
 use Rattle.m2v_recon.specs.Steps.{levels_of}
 use Rattle.m2v_choose.specs.Decisions.{written}
 use Rattle.m2v_macro.specs.declared.values.MacroSyntax.{MacroSyntax}
 use Rattle.m2v_choose.specs.Decisions.{pattern_of}
 use Rattle.m2v_choose.specs.Laws.{IsWritable}
-use Rattle.m2v_choose.specs.Trials.{decided, Tried, block_squared, uncoded_squared, with_blocks, sends_code, Predicts}
+use Rattle.m2v_choose.specs.Trials.{decided, Tried, block_squared, uncoded_squared, with_blocks, sends_code, quantised_by, Predicts}
+use Rattle.std.specs.Prelude.{slice_index_or, unsigned_abs}
+use Rattle.m2v_idct.specs.Block.{nth}
+use Rattle.m2v_macroblock.specs.Macroblocks.{kind_for}
+use Rattle.m2v_choose.proofs.Empties.{none_reached}
 use Rattle.m2v_choose.proofs.Tried.{own_picture}
 use Rattle.m2v_choose.proofs.Coded.{coded_writable, kinds_plain, predicts, coding_none, coding_some}
 use Rattle.m2v_choose.proofs.trial.Best.try_coding.Goals as goal
@@ -17,6 +21,20 @@ kinds-kinds-requires-clause-picture c = own_picture c.args.task.now.context.now 
 
 pub quantise_blocks-pattern-requires-clause-precision : goal.quantise_blocks-pattern-requires-clause-precision
 quantise_blocks-pattern-requires-clause-precision c = kinds_plain c.args.task.now.context.now _ c.args.q c.kinds-kinds.result c.requires.task.asked.own.precision c.kinds-kinds.ensures.value
+
+pub returns-then-not-reaches : goal.returns-then-not-reaches
+returns-then-not-reaches c = record {
+  tried = λ r p same samples made rated.
+      let t = c.args.task.now in
+      let q = c.args.q in
+      let ts = c.args.transforms.now in
+      let luma = kind_for t.context.now false true q in
+      let chroma = kind_for t.context.now false false q in
+      let low = λ (b k : ℕ) (lt : b < 6) (small : k < 64).
+      subst (λ (n : ℕ). unsigned_abs (nth (slice_index_or ts b []) k) < 2 * n) c.from.ensures (c.reaches.ensures c.if-not-reaches.true b k lt small) in
+      coding_none r t p c.args.plain.now.bare.now same c.args.plain.now.prediction.now.at ts (quantised_by ts luma chroma) q c.args.dct_field (luma ∷ chroma ∷ [])
+      samples made refl refl (none_reached t.context.now q c.requires.task.asked.own ts low) c.args.self.now rated;
+}
 
 pub returns-then-pattern-eq0 : goal.returns-then-pattern-eq0
 returns-then-pattern-eq0 c = record {

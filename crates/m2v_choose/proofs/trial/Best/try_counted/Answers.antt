@@ -1,9 +1,10 @@
-use Rattle.std.proofs.Common.{◌≡◌, ◌+◌, ◌*◌, sym, ◌∙◌, inl, inr, refl, arith}
+use Rattle.std.proofs.Common.{◌≡◌, ◌+◌, ◌*◌, ap, sym, ◌∙◌, inl, inr, refl, arith}
+use Rattle.m2v_pred.specs.declared.block.Block16.{Block16}
 use Rattle.m2v_recon.specs.Steps.{levels_of}
 use Rattle.m2v_choose.specs.Decisions.{written}
 use Rattle.m2v_choose.specs.Choice.{squared}
 use Rattle.m2v_choose.specs.Trials.{decided, candidate_of, rebuilt_by}
-use Rattle.m2v_choose.proofs.Tried.{left_out, kept, taken, fits_is, points}
+use Rattle.m2v_choose.proofs.Tried.{left_out, kept, passed, taken, fits_is, points, written_samples}
 use Rattle.m2v_choose.proofs.PartSquares.{written_squares}
 use Rattle.m2v_choose.proofs.trial.Best.try_counted.Goals as goal
 
@@ -49,7 +50,9 @@ returns-then-score-self c = record {
       let new = c.take.new.self in
       let same : candidate_of new.choice ≡ x =
       λ i. record { skip = c.take.ensures.skip i; macroblock = record { syntax = c.take.ensures.syntax i; levels = levels_of (c.take.ensures.levels i) } } in
-      taken d x c.args.self.now rated new same (c.take.ensures.bits ∙ bits) (c.take.ensures.below ∙ squares ∙ score)
+      let out : new.choice.samples.at ≡ rebuilt_by t p (record { syntax = m; levels = ls }) =
+      ap (λ (b : Block16). b.at) c.take.ensures.samples ∙ c.coded_squares-squares.ensures.rebuilt (omega (arith, c.from-2.ensures, c.if-score-self.true, c.if-cost-self.false)) in
+      taken d x c.args.self.now rated new same (c.take.ensures.bits ∙ bits) (out ∙ written_samples r t m ls p predicts) (c.take.ensures.below ∙ squares ∙ score)
       (sym (fits_is d x c.args.bits bits) ∙ sym c.fits.ensures ∙ c.if-not-fits.false)
       (omega (arith, c.take.ensures.below, c.if-score-self.true));
 }
@@ -65,5 +68,8 @@ returns-else-score-self c = record {
       let x = written m ls in
       let whole = written_squares t p m ls c.are_bytes.ensures in
       let score = points r t m ls p (squared t.source.now.at (rebuilt_by t p (record { syntax = m; levels = ls }))) c.bit_cost.result c.args.bits predicts refl c.bit_cost.ensures.value (c.requires.bits r) in
-      kept d x c.args.self.now rated (omega (arith, score, whole, c.requires.still, c.from.ensures, c.from-2.ensures, c.coded_squares-squares.ensures.most, c.if-score-self.false));
+      let old = c.args.self.now in
+      let stays = c.coded_squares-squares.ensures.kept (omega (arith, c.from-2.ensures, c.if-score-self.false, c.if-cost-self.false)) in
+      passed d x old rated (record old { choice = record old.choice { samples = c.coded_squares-squares.new.out } }) refl refl stays
+      (omega (arith, score, whole, c.requires.still, c.from.ensures, c.from-2.ensures, c.coded_squares-squares.ensures.most, c.if-score-self.false));
 }

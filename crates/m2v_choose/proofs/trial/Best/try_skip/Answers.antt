@@ -12,7 +12,7 @@ use Rattle.m2v_choose.proofs.trial.Best.try_skip.Goals as goal
 
 pub returns-then-not-may_skip : goal.returns-then-not-may_skip
 returns-then-not-may_skip g c = record {
-  tried = λ samples still squares rated.
+  tried = λ still squares rated.
       let r = references_of (g.V.RefView.size c.args.forward.now) (g.V.RefView.at c.args.forward.now) (g.V.RefView.at c.args.backward.now) in
       skip_left (decided r c.args.task.now) c.may_skip.result c.args.self.now (sym (c.may_skip.ensures.value (g.V.RefView.at c.args.forward.now) (g.V.RefView.at c.args.backward.now))) c.if-not-may_skip.true rated;
 }
@@ -75,7 +75,7 @@ predict_in-requires-clause-backward g c = λ e.
 
 pub returns-then-task-eq2 : goal.returns-then-task-eq2
 returns-then-task-eq2 g c = record {
-  tried = λ samples still squares rated.
+  tried = λ still squares rated.
       let r = references_of (g.V.RefView.size c.args.forward.now) (g.V.RefView.at c.args.forward.now) (g.V.RefView.at c.args.backward.now) in
       let t = c.args.task.now in
       let d = decided r t in
@@ -83,15 +83,15 @@ returns-then-task-eq2 g c = record {
       let b = g.V.RefView.at c.args.backward.now in
       let same = skipped_zero t.context.now t.state.now c.if-task-eq2.true in
       skip_tried d c.may_skip.result c.args.self.now c.try_skipped.new.self (sym (c.may_skip.ensures.value f b)) c.if-not-may_skip.false
-      (c.try_skipped.ensures.tried r samples (still c.if-task-eq2.true ∙ ap (λ (m : Mode). block_by (predicted f b m (place_for t))) (sym same)) (squares c.if-task-eq2.true) rated);
+      (c.try_skipped.ensures.tried r (still c.if-task-eq2.true ∙ ap (λ (m : Mode). block_by (predicted f b m (place_for t))) (sym same)) (squares c.if-task-eq2.true) rated);
 }
 
 pub returns : goal.returns
 returns g c = record {
-  tried = λ samples still squares rated.
+  tried = λ still squares rated.
       let r = references_of (g.V.RefView.size c.args.forward.now) (g.V.RefView.at c.args.forward.now) (g.V.RefView.at c.args.backward.now) in
       let f = g.V.RefView.at c.args.forward.now in
       let b = g.V.RefView.at c.args.backward.now in
       skip_tried (decided r c.args.task.now) c.may_skip.result c.args.self.now c.try_skipped-2.new.self (sym (c.may_skip.ensures.value (g.V.RefView.at c.args.forward.now) (g.V.RefView.at c.args.backward.now))) c.if-not-may_skip.false
-      (c.try_skipped-2.ensures.tried r c.predict_in.new.out.at (c.predict_in.ensures.value ∙ (λ i. block_by (predicted f b (c.skipped_mode-mode.ensures.value i) (c.place_of.ensures i)))) c.squared.ensures.value rated);
+      (c.try_skipped-2.ensures.tried r (c.predict_in.ensures.value ∙ (λ i. block_by (predicted f b (c.skipped_mode-mode.ensures.value i) (c.place_of.ensures i)))) c.squared.ensures.value rated);
 }

@@ -3,7 +3,7 @@ use Rattle.m2v_plane.specs.declared.planes.Plane.TheVariants.{Cb, Cr}
 use Rattle.m2v_plane.specs.declared.planes.Lines.TheVariants.{Whole}
 use Rattle.m2v_plane.specs.Samples.{Samples, square_of, with_square}
 use Rattle.m2v_macroblock.proofs.m2v_recon.Samples.{squares_are}
-use Rattle.m2v_slice.proofs.predict.paint.Goals as goal
+use Rattle.m2v_slice.proofs.macroblocks.paint.Goals as goal
 
 pub returns : goal.returns
 returns c =
