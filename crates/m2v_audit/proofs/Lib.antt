@@ -3,6 +3,7 @@ pub mod Kept
 pub mod Telling
 pub mod Reports
 pub mod Counting
+pub mod Walks
 pub mod Placed
 pub mod OtherLaws
 pub mod Showing

@@ -1,14 +1,14 @@
 -- The headers before the picture of a piece, unit by unit, and where they stand.
-use Rattle.std.proofs.Common.{◌≡◌, ℕ, ◌+◌, ◌*◌, ◌^◌, ◌≤◌, Bool, true, false, List, [], ◌∷◌, ◌++◌, length, drop, take, Result, Ok, Err, inl, inr, refl, sym, ap, subst, ◌∙◌, append_assoc, arith}
+use Rattle.std.proofs.Common.{◌≡◌, ℕ, ◌+◌, ◌*◌, ◌≤◌, Bool, true, false, List, [], ◌∷◌, ◌++◌, length, drop, take, Result, Ok, Err, inl, inr, refl, sym, ap, ◌∙◌, append_assoc, arith}
 use Rattle.std.specs.Prelude.{nat_eq}
 use Rattle.std.specs.List.{AllByRecursion}
 use Rattle.std.proofs.lemmas.Bool.{cases_Bool, eqb-true, ne_eqb}
-use Rattle.std.proofs.lemmas.List.{append-nil, length-append}
+use Rattle.std.proofs.lemmas.List.{length-append}
 use Rattle.m2v_model.specs.m2v_macroblock.m2v_head.declared.group.GroupInfo.{GroupInfo}
 use Rattle.m2v_model.specs.declared.fault.FaultKind.{FaultKind}
 use Rattle.m2v_model.specs.Headers.{whole_header, group_in}
 use Rattle.m2v_model.specs.Streams.{value_of}
-use Rattle.m2v_model.specs.Units.{Units, begins_code, cut, joined, AreUnits, unit_bits, body}
+use Rattle.m2v_model.specs.Units.{Units, begins_code, cut, joined, AreUnits, body}
 use Rattle.m2v_model.specs.declared.phase.Phase.{Phase}
 use Rattle.m2v_model.specs.declared.phase.Phase.TheVariants.{Before, Headers, Picture}
 use Rattle.m2v_model.specs.Pieces.{phase_after, begins_piece, is_end, piece_of, grouped, pieces}
@@ -18,38 +18,17 @@ use Rattle.m2v_audit.specs.Front.{group_told, group_at, header_at, headers_from,
 
 -- ---- unit by unit
 
--- so far these headers were told, and the units that are left begin at a bit
-pub record Fronted (first : ℕ) (all : Units) (headers : List PieceHeader) (bit : ℕ) (us : Units) : Type 0 where
-  pub is : headers ++ headers_from bit us ≡ headers_from first all
-  pub most : bit + unit_bits us ≤ 2 ^ 42
-
-pub fronted_none : (bit : ℕ) (us : Units) → bit + unit_bits us ≤ 2 ^ 42 → Fronted bit us [] bit us
-fronted_none bit us most = record { is = refl; most = most }
-
-pub fronted_more : (first bit next : ℕ) (all us mid : Units) (u : List ℕ) (headers more : List PieceHeader) → Fronted first all headers bit us → us ≡ u ∷ mid → (value_of u ≡ 0 → ⊥) → more ≡ headers ++ header_at bit u → next ≡ bit + 8 * length u
-    → Fronted first all more next mid
+pub headers_none : (bit : ℕ) → headers_from bit [] ≡ []
 unfolding headers_from
-fronted_more first bit next all us mid u headers more h e off told is =
-    let at = subst (λ (l : Units). Fronted first all headers bit l) e h in
-    let other : nat_eq (value_of u) 0x00 ≡ false = ne_eqb (value_of u) 0x00 off in
-    let here : headers_from bit (u ∷ mid) ≡ header_at bit u ++ headers_from (bit + 8 * length u) mid = rw other refl in
-    record {
-      is = rw (told, is) (append_assoc headers (header_at bit u) (headers_from (bit + 8 * length u) mid) ∙ ap (λ (l : List PieceHeader). headers ++ l) (sym here) ∙ at.is);
-      most = omega (arith, at.most, is);
-    }
+headers_none bit = refl
 
-pub fronted_here : (first bit : ℕ) (all us mid : Units) (u : List ℕ) (headers : List PieceHeader) → Fronted first all headers bit us → us ≡ u ∷ mid → value_of u ≡ 0 → headers ≡ headers_from first all
+pub headers_on : (bit : ℕ) (u : List ℕ) (us : Units) → (value_of u ≡ 0 → ⊥) → headers_from bit (u ∷ us) ≡ header_at bit u ++ headers_from (bit + 8 * length u) us
 unfolding headers_from
-fronted_here first bit all us mid u headers h e on =
-    let at = subst (λ (l : Units). Fronted first all headers bit l) e h in
-    let here : headers_from bit (u ∷ mid) ≡ [] = rw on refl in
-    sym (append-nil headers) ∙ ap (λ (l : List PieceHeader). headers ++ l) (sym here) ∙ at.is
+headers_on bit u us off = let other : nat_eq (value_of u) 0x00 ≡ false = ne_eqb (value_of u) 0x00 off in rw other refl
 
-pub fronted_all : (first bit : ℕ) (all us : Units) (headers : List PieceHeader) → Fronted first all headers bit us → us ≡ [] → headers ≡ headers_from first all
+pub headers_end : (bit : ℕ) (u : List ℕ) (us : Units) → value_of u ≡ 0 → headers_from bit (u ∷ us) ≡ []
 unfolding headers_from
-fronted_all first bit all us headers h e =
-    let at = subst (λ (l : Units). Fronted first all headers bit l) e h in
-    sym (append-nil headers) ∙ at.is
+headers_end bit u us on = rw on refl
 
 -- ---- where they stand
 

@@ -7,10 +7,10 @@ use Rattle.m2v_model.specs.m2v_macroblock.m2v_head.declared.sequence.SequenceExt
 use Rattle.m2v_model.specs.m2v_macroblock.m2v_head.declared.group.GroupInfo.{GroupInfo}
 use Rattle.m2v_model.specs.declared.state.Sequence.{Sequence}
 use Rattle.m2v_model.specs.declared.notes.PictureNote.{PictureNote}
-use Rattle.m2v_model.specs.States.{width_of, height_of, first_or, is_b}
+use Rattle.m2v_model.specs.States.{first_or, is_b}
 use Rattle.m2v_model.specs.Pieces.{zeros_last}
 use Rattle.m2v_model.specs.PieceNotes.{PieceNotes}
-use Rattle.m2v_model.specs.Lawful.{rate_of, buffer_of, sequence_breaches, horizontal_rule, vertical_rule, intra_rule, crowd_rule, repeat_rule, progressive_rule, precision_rule}
+use Rattle.m2v_model.specs.Lawful.{rate_of, sequence_breaches, horizontal_rule, vertical_rule, intra_rule, crowd_rule, repeat_rule, progressive_rule, precision_rule}
 use Rattle.m2v_strict.specs.m2v_check.declared.coded.CodedPicture.{CodedPicture}
 use Rattle.m2v_strict.specs.m2v_check.Breaking.{numbered_of}
 use Rattle.m2v_strict.specs.m2v_check.Running.{ends_frame}
@@ -39,21 +39,13 @@ use Rattle.m2v_audit.specs.declared.auditing.PieceEnd.{PieceEnd}
 use Rattle.m2v_audit.specs.declared.headers.PieceHeader.{PieceHeader}
 use Rattle.m2v_audit.specs.declared.headers.PieceHeader.TheVariants as headers
 use Rattle.m2v_audit.specs.declared.others.Other.{Other}
-use Rattle.m2v_audit.specs.declared.places.Waiting.{Waiting}
-use Rattle.m2v_audit.specs.declared.records.SequenceRecord.{SequenceRecord}
-use Rattle.m2v_audit.specs.declared.records.GroupRecord.{GroupRecord}
-use Rattle.m2v_audit.specs.declared.records.PictureRecord.{PictureRecord}
 use Rattle.m2v_audit.specs.declared.remarks.Behind.{Behind}
 use Rattle.m2v_audit.specs.declared.report.Rate.{Rate}
 use Rattle.m2v_audit.specs.declared.report.SequenceTotals.{SequenceTotals}
-use Rattle.m2v_audit.specs.declared.words.PictureType.{PictureType}
-use Rattle.m2v_audit.specs.declared.words.PictureType.TheVariants as types
-use Rattle.m2v_audit.specs.declared.words.RateKind.{RateKind}
-use Rattle.m2v_audit.specs.declared.words.Structure.{Structure}
-use Rattle.m2v_audit.specs.declared.words.Structure.TheVariants as structures
 use Rattle.m2v_audit.specs.Account.{Account, opened, with_picture as account_with, with_more as account_more, settled, after_settled, ended as all_left}
 use Rattle.m2v_audit.specs.Findings.{with_breaches, with_remarks, with_misplaced, with_removals}
 use Rattle.m2v_audit.specs.Front.{front_of}
+use Rattle.m2v_audit.specs.HeaderRecords.{sequence_record, rate_with, group_record, bit_of, picture_record, waiting_of}
 use Rattle.m2v_audit.specs.Others.{others_of, display_of, with_own_remarks, headed_remarks, display_behind}
 use Rattle.m2v_audit.specs.Opening.{kind_of, first_buffer}
 use Rattle.m2v_audit.specs.Places.{no_places, with_field, with_frame, told_with_frame, group_closed, told_at_close}
@@ -107,32 +99,6 @@ longer bytes a = record a { bytes = a.bytes + bytes }
 
 -- ---- the beginning
 
--- a sequence by its first header, which stands at a bit of the input
-abbrev pub sequence_record : ℕ → ℕ → Sequence → RateKind → SequenceRecord
-sequence_record number bit s rate = record {
-  sequence = number;
-  bit = bit;
-  width = width_of s;
-  height = height_of s;
-  frame_rate_code = s.info.frame_rate_code;
-  aspect = s.info.aspect;
-  profile_and_level = s.extension.profile_and_level;
-  progressive = s.extension.progressive_sequence;
-  low_delay = s.extension.low_delay;
-  bit_rate = rate_of s;
-  vbv_buffer_size = buffer_of s;
-  rate = rate;
-}
-
--- the first vbv_delay doesn't say that the rate is variable (clause 6.3.9); without a picture the rate counts as constant
-abbrev pub is_constant : Option PictureNote → Bool
-is_constant None = true
-is_constant (Some n) = not (nat_eq n.info.vbv_delay 65535)
-
--- how the buffer is filled, by the first header and the first picture
-abbrev pub rate_with : Sequence → Option PictureNote → Rate
-rate_with s n = record { constant = is_constant n; low_delay = s.extension.low_delay; size = 1800 * (16384 * buffer_of s) }
-
 -- the sequence begins, with its first header and the picture of its first piece: it is told
 abbrev pub with_first : Auditing → ℕ → Sequence → Option PictureNote → Auditing
 with_first a place s n = record a {
@@ -181,21 +147,6 @@ with_sequence a bit s = record a {
       (first_or a.first s) s;
   sequence = Some s;
   headed = true;
-}
-
-abbrev pub group_record : ℕ → ℕ → ℕ → ℕ → GroupInfo → GroupRecord
-group_record number group bit picture g = record {
-  sequence = number;
-  group = group;
-  bit = bit;
-  picture = picture;
-  drop_frame = g.drop;
-  hours = g.hours;
-  minutes = g.minutes;
-  seconds = g.seconds;
-  pictures = g.pictures;
-  closed = g.closed_gop;
-  broken = g.broken_link;
 }
 
 -- what stands before a group header
@@ -248,10 +199,6 @@ with_headers a ss k (h ∷ hs) = with_headers (with_header a h (slice_get ss k))
 
 -- ---- a picture
 
--- where its start code begins
-abbrev pub bit_of : PictureNote → ℕ
-bit_of n = n.code_end - 32
-
 -- the picture among the others
 abbrev pub coded : Auditing → Sequence → PictureNote → CodedPicture
 coded a s n = record { number = a.pictures; sequence = s; first_in_group = a.first_in_group; note = n }
@@ -271,28 +218,6 @@ counted a p = record a {
   pictures = a.pictures + 1;
   frames = if is_shown p.note then one_more a.frames else a.frames;
   constant = constant_with a p;
-}
-
-abbrev pub type_of : ℕ → PictureType
-type_of kind = if nat_eq kind 1 then types.I else if nat_eq kind 2 then types.P else types.B
-
-abbrev pub structure_of : ℕ → Structure
-structure_of structure = if nat_eq structure 1 then structures.Top else if nat_eq structure 2 then structures.Bottom else structures.Frame
-
--- what is told of a picture whose piece has so many bytes, of which so many zero bytes end it
-abbrev pub picture_record : ℕ → CodedPicture → ℕ → ℕ → PictureRecord
-picture_record number p bytes zeros = record {
-  sequence = number;
-  picture = p.number;
-  bit = bit_of p.note;
-  kind = type_of p.note.info.kind;
-  structure = structure_of p.note.extension.structure;
-  temporal_reference = p.note.info.temporal_reference;
-  bits = 8 * bytes;
-  zeros = 8 * zeros;
-  vbv_delay = p.note.info.vbv_delay;
-  fields = fields_of p.sequence p.note;
-  dropped = p.note.dropped;
 }
 
 -- a picture's breaches, one after another
@@ -336,9 +261,6 @@ with_told a p bytes zeros = record a {
   headed = false;
   runs = runs_with a.runs p (fields_of p.sequence p.note);
 }
-
-abbrev pub waiting_of : CodedPicture → Waiting
-waiting_of p = record { number = p.number; bit = bit_of p.note; reference = p.note.info.temporal_reference }
 
 -- then rule 11 of the frames whose place is known by it
 abbrev pub with_place : Auditing → CodedPicture → Auditing

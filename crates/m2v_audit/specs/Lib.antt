@@ -10,6 +10,7 @@ pub mod Places
 pub mod Times
 pub mod Opening
 pub mod Findings
+pub mod HeaderRecords
 pub mod Auditing
 pub mod WorkedAuditing
 pub mod FaultWords

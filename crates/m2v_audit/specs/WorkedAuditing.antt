@@ -1,82 +1,34 @@
 -- A worked sequence of one picture, and its end code: all that is told of it is written out by hand in the law on it.
 use Rattle.std.specs.Prelude.{ℕ, true, false, List, [], ◌∷◌, ◌++◌, Some, None}
 use Rattle.m2v_model.specs.m2v_macroblock.m2v_head.declared.sequence.SequenceInfo.{SequenceInfo}
-use Rattle.m2v_model.specs.m2v_macroblock.m2v_head.declared.sequence.SequenceExtension.{SequenceExtension}
 use Rattle.m2v_model.specs.m2v_macroblock.m2v_head.declared.picture.PictureInfo.{PictureInfo}
 use Rattle.m2v_model.specs.m2v_macroblock.m2v_head.declared.picture.PictureExtension.{PictureExtension}
 use Rattle.m2v_model.specs.declared.notes.PictureNote.{PictureNote}
 use Rattle.m2v_model.specs.PieceNotes.{PieceNotes}
 use Rattle.m2v_strict.specs.declared.rule_set.RuleSet.TheVariants as sets
+use Rattle.m2v_strict.specs.Worked.{info, extension, picture_info, picture_extension, note}
 use Rattle.m2v_audit.specs.WorkedPiece.{sequence_units, group_unit, picture_unit}
 use Rattle.m2v_audit.specs.Auditing.{Auditing, nothing, after_piece, ended}
 
--- what the headers of the worked piece say
+-- what the headers of the worked piece say: another size and frame rate than those of the worked headers
 abbrev pub sequence_info : SequenceInfo
-sequence_info = record {
-  horizontal_size = 720;
-  vertical_size = 576;
-  aspect = 2;
-  frame_rate_code = 3;
-  bit_rate = 15000;
-  vbv_buffer_size = 112;
-  constrained = false;
-  load_intra = None;
-  load_non_intra = None;
-}
-
-abbrev pub sequence_extension : SequenceExtension
-sequence_extension = record {
-  profile_and_level = 72;
-  progressive_sequence = false;
-  chroma_format = 1;
-  horizontal_ext = 0;
-  vertical_ext = 0;
-  bit_rate_ext = 0;
-  vbv_ext = 0;
-  low_delay = false;
-  rate_n = 0;
-  rate_d = 0;
-}
+sequence_info = record info { horizontal_size = 720; vertical_size = 576; frame_rate_code = 3 }
 
 -- an I picture at variable rate, which says that it is the third to be shown
-abbrev pub picture_info : PictureInfo
-picture_info = record {
-  temporal_reference = 2;
-  kind = 1;
-  vbv_delay = 65535;
-  full_pel_forward = false;
-  forward_f_code = 0;
-  full_pel_backward = false;
-  backward_f_code = 0;
-}
+abbrev pub third_info : PictureInfo
+third_info = record picture_info { temporal_reference = 2; vbv_delay = 65535 }
 
--- a frame, whose DC coefficients have a precision of 11 bits, one more than rule 15 allows
-abbrev pub picture_extension : PictureExtension
-picture_extension = record {
+-- a frame that is shown for three fields, whose DC coefficients have a precision of 11 bits, one more than rule 15 allows
+abbrev pub third_extension : PictureExtension
+third_extension = record picture_extension {
   f_code = (15 ∷ 15 ∷ []) ∷ (15 ∷ 15 ∷ []) ∷ [];
   dc_precision = 3;
-  structure = 3;
-  top_field_first = true;
-  frame_pred_frame_dct = false;
-  concealment = false;
-  q_scale_type = false;
-  intra_vlc_format = false;
-  alternate_scan = false;
   repeat_first_field = true;
   chroma_420_type = true;
-  progressive_frame = true;
-  composite = None;
 }
 
-abbrev pub picture_note : PictureNote
-picture_note = record {
-  info = picture_info;
-  extension = picture_extension;
-  code_end = 1072;
-  dropped = false;
-  first = true;
-  crowded = 0;
-}
+abbrev pub third : PictureNote
+third = record note { info = third_info; extension = third_extension; code_end = 1072 }
 
 -- its headers with two zero bytes after them, which stand for its slices
 abbrev pub first_piece : List ℕ
@@ -84,9 +36,9 @@ first_piece = sequence_units ++ group_unit ++ picture_unit ++ 0x00 ∷ 0x00 ∷ 
 
 abbrev pub first_notes : PieceNotes
 first_notes = record {
-  sequences = (sequence_info, sequence_extension) ∷ [];
+  sequences = (sequence_info, extension) ∷ [];
   group = true;
-  picture = Some picture_note;
+  picture = Some third;
 }
 
 -- the sequence end code

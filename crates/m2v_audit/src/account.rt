@@ -12,7 +12,7 @@ use std::collections::VecDeque;
 use std::marker::Model;
 
 /// A picture that is removed from the buffer.
-#[derive(Clone, Copy, Debug, PartialEq, Eq)]
+#[derive(Clone, Copy)]
 pub struct Due {
     /// Its number in the sequence, in coding order.
     pub number: u64,

@@ -20,7 +20,7 @@ use m2v_strict::{Arrival, Display, Leading, Parity, RuleSet, Runs};
 use std::alloc::{AllocError, Global};
 
 /// How a piece ends.
-#[derive(Clone, Copy, Debug, PartialEq, Eq)]
+#[derive(Clone, Copy)]
 pub struct PieceEnd {
     /// Where, in bits of the input.
     pub bit: u64,
@@ -232,7 +232,7 @@ impl Auditing {
     }
 
     /// Where a header at a bit of the input stands.
-    fn place_at(&self, bit: u64) -> Place
+    pub(crate) fn place_at(&self, bit: u64) -> Place
         ensures picture { result.picture ≡ self.now.pictures }
         ensures bit { result.bit ≡ bit }
     {

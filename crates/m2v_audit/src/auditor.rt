@@ -10,7 +10,7 @@ ghost use Rattle.m2v_audit.specs.Auditing.{nothing, fronted, pictured, with_othe
 
 use crate::asked::Asked;
 use crate::auditing::{Auditing, PieceEnd};
-use crate::findings::{Place, tell_ended, tell_misplaced, tell_remarks};
+use crate::findings::{tell_ended, tell_misplaced, tell_remarks};
 use crate::headers::front;
 use crate::others::{Other, read_others};
 use crate::remarks::tell_shown;
@@ -146,10 +146,7 @@ impl Auditing {
         let before = self.leading();
         match self.last {
             Some(end) => {
-                let place = Place {
-                    picture: self.pictures,
-                    bit: end.bit,
-                };
+                let place = self.place_at(end.bit);
                 tell_remarks(&mut self.report, place, &end_rules(&before, end.closed))
             }
             None => Ok(()),

@@ -97,10 +97,7 @@ impl Auditing {
     {
         let d = display_of(others);
         let remark = headed_rule(self.headed, &self.display, &d);
-        let stands = Place {
-            picture: self.pictures,
-            bit: 8 * place,
-        };
+        let stands = self.place_at(8 * place);
         self.display = display_behind(self.headed, self.display, d);
         tell_remarks(&mut self.report, stands, &[remark])
     }

@@ -4,12 +4,13 @@ ghost use Rattle.std.specs.Option.{option_to_list};
 ghost use Rattle.m2v_model.specs.Units.{unit_bits};
 ghost use Rattle.m2v_audit.specs.Front.{group_at, header_at, headers_from};
 
+use crate::append::append;
 use m2v_dec_unit::{Unit, UnitReader, group};
 use m2v_model::macro_library::head::GroupInfo;
 use std::alloc::{AllocError, Global};
 
 /// A header before the picture of a piece.
-#[derive(Clone, Copy, Debug, PartialEq, Eq)]
+#[derive(Clone, Copy)]
 pub enum PieceHeader {
     /// A sequence header.
     Sequence {
@@ -52,10 +53,7 @@ fn header_in(bit: u64, u: &Unit) -> Option<PieceHeader>
 fn note(headers: &mut Vec<PieceHeader>, bit: u64, u: &Unit) -> Result<(), AllocError>
     ensures { OnOk result (headers.new.items ≡ headers.old.items ++ header_at bit u.now) }
 {
-    if let Some(header) = header_in(bit, u) {
-        headers.push(header)?;
-    }
-    Ok(())
+    append(headers, header_in(bit, u))
 }
 
 /// The sequence headers and the group headers among units, of which the first begins at a bit of the input, up to the

@@ -4,6 +4,7 @@
 
 mod account;
 mod account_laws;
+mod append;
 mod asked;
 mod auditing;
 mod auditor;

@@ -7,6 +7,7 @@ ghost use Rattle.m2v_model.specs.Streams.{value_of};
 ghost use Rattle.m2v_model.specs.Units.{unit_bits};
 ghost use Rattle.m2v_audit.specs.Others.{colour_at, description_at, between_at, display_id_at, display_at, vector_bits, extra_at, display_in, extra_in, matrices_of, other_at, is_slice, others_from, display_of};
 
+use crate::append::append;
 use m2v_bits::{BitReader, check, flag, number};
 use m2v_dec_unit::{Unit, UnitReader, matrices};
 use m2v_model::FaultKind;
@@ -15,7 +16,7 @@ use m2v_strict::Display;
 use std::alloc::{AllocError, Global};
 
 /// What else a unit before a piece's first slice says.
-#[derive(Clone, Copy, Debug, PartialEq, Eq)]
+#[derive(Clone, Copy)]
 pub enum Other {
     /// A sequence display extension.
     Display {
@@ -161,23 +162,13 @@ fn matrices_in(bit: u64, u: &Unit) -> Option<Other>
     }
 }
 
-/// Appends what was read, where it was.
-fn put(others: &mut Vec<Other>, other: Option<Other>) -> Result<(), AllocError>
-    ensures { OnOk result (others.new.items ≡ others.old.items ++ option_to_list other) }
-{
-    if let Some(other) = other {
-        others.push(other)?;
-    }
-    Ok(())
-}
-
 /// Appends what an extension's unit that begins at a bit says.
 fn note_extension(others: &mut Vec<Other>, bit: u64, u: &Unit) -> Result<(), AllocError>
     ensures { OnOk result
         (others.new.items ≡ others.old.items ++ (display_in u.now ++ matrices_of bit u.now)) }
 {
-    put(others, display_in(u))?;
-    put(others, matrices_in(bit, u))
+    append(others, display_in(u))?;
+    append(others, matrices_in(bit, u))
 }
 
 /// Appends what a unit that begins at a bit says.
@@ -186,7 +177,7 @@ fn note(others: &mut Vec<Other>, bit: u64, u: &Unit) -> Result<(), AllocError>
     ensures { OnOk result (others.new.items ≡ others.old.items ++ other_at bit u.now) }
 {
     match u.value() {
-        0x00 => put(others, extra_in(bit, u)),
+        0x00 => append(others, extra_in(bit, u)),
         0xB5 => note_extension(others, bit, u),
         _ => Ok(()),
     }

@@ -1,9 +1,9 @@
 //! How a picture changes what is kept of a sequence that is audited: its rules, its place in its group, and the account.
-ghost use Rattle.std.specs.Prelude.{◌≡◌, ◌+◌, ◌*◌, ◌≤◌, ◌<◌, ◌^◌, OnOk, IfSome};
+ghost use Rattle.std.specs.Prelude.{◌≡◌, ◌+◌, ◌*◌, ◌≤◌, ◌<◌, ◌^◌, Some, OnOk, IfSome};
 ghost use Rattle.std.specs.Option.{option_map};
 ghost use Rattle.m2v_strict.specs.m2v_check.Judging.{IsPlaced};
 ghost use Rattle.m2v_audit.specs.Account.{Account as State, IsPicture, with_more};
-ghost use Rattle.m2v_audit.specs.Auditing.{coded, constant_with, is_shown, counted, with_rules, preceding, with_told, with_place, with_parity, due_of, opened_by, account_by, with_account, with_coded, pictured, with_settled, total_of, IsSound, HasRoom, Keeps};
+ghost use Rattle.m2v_audit.specs.Auditing.{coded, constant_with, is_shown, counted, with_rules, preceding, with_told, with_place, with_parity, due_of, opened_by, account_by, with_account, with_coded, with_note, pictured, with_settled, total_of, IsSound, HasRoom, Keeps};
 ghost use Rattle.m2v_audit.specs.Times.{after as times_after};
 
 use crate::account::{Account, Due};
@@ -262,6 +262,32 @@ impl Auditing {
         self.account(alloc, p, place, bytes)
     }
 
+    /// The picture of a piece that has one, where a sequence header came before it.
+    fn headed_picture(
+        &mut self,
+        alloc: Global,
+        n: &PictureNote,
+        place: u64,
+        bytes: u64,
+        zeros: u64,
+    ) -> Result<(), AllocError>
+        requires placed { IsPlaced n.now place bytes }
+        requires place { place + bytes ≤ 2 ^ 36 }
+        requires zeros { zeros ≤ bytes }
+        requires room { HasRoom self.old bytes }
+        ensures value { OnOk result (self.new
+            ≡ with_note self.old self.old.sequence (Some n.now) place bytes zeros) }
+        ensures sound { IsSound self.new }
+    {
+        match self.sequence {
+            Some(s) => {
+                let p = self.coded(&s, n);
+                self.picture(alloc, &p, place, bytes, zeros)
+            }
+            None => Ok(()),
+        }
+    }
+
     /// The picture of a piece that has one, or more bits of the one before it.
     pub(crate) fn note(
         &mut self,
@@ -278,13 +304,9 @@ impl Auditing {
         ensures value { OnOk result (self.new ≡ pictured self.old place bytes zeros note.now) }
         ensures sound { IsSound self.new }
     {
-        match (note, self.sequence) {
-            (Some(n), Some(s)) => {
-                let p = self.coded(&s, n);
-                self.picture(alloc, &p, place, bytes, zeros)
-            }
-            (Some(_), None) => Ok(()),
-            (None, _) => {
+        match note {
+            Some(n) => self.headed_picture(alloc, n, place, bytes, zeros),
+            None => {
                 account_more(&mut self.account, 8 * bytes);
                 Ok(())
             }

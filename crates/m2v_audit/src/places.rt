@@ -4,7 +4,7 @@ ghost use Rattle.std.specs.Prelude.{◌≡◌, ◌+◌, ◌<◌, ◌≤◌, ◌^
 ghost use Rattle.m2v_audit.specs.Places.{misplaced, field_misplaced, frame_misplaced, anchor_misplaced, waiting_in, no_places, with_field, with_frame, told_with_frame, group_closed, told_at_close};
 
 /// A picture whose place isn't known yet.
-#[derive(Clone, Copy, Debug, PartialEq, Eq)]
+#[derive(Clone, Copy)]
 pub struct Waiting {
     /// Its number in the sequence, in coding order.
     pub number: u64,
@@ -15,7 +15,7 @@ pub struct Waiting {
 }
 
 /// A frame whose place isn't known yet: a frame picture, or two fields.
-#[derive(Clone, Copy, Debug, PartialEq, Eq)]
+#[derive(Clone, Copy)]
 pub struct WaitingFrame {
     /// Its first field.
     pub first: Option<Waiting>,
@@ -24,7 +24,7 @@ pub struct WaitingFrame {
 }
 
 /// A picture whose temporal_reference isn't the place of its frame.
-#[derive(Clone, Copy, Debug, PartialEq, Eq)]
+#[derive(Clone, Copy)]
 pub struct Misplaced {
     /// Its number in the sequence, in coding order.
     pub number: u64,
@@ -37,7 +37,7 @@ pub struct Misplaced {
 }
 
 /// Where the frames of a group stand in display order.
-#[derive(Clone, Copy, Debug, PartialEq, Eq)]
+#[derive(Clone, Copy)]
 pub struct Places {
     /// Each frame is shown when it is decoded.
     pub low_delay: bool,

@@ -4,7 +4,7 @@ use crate::words::{FailureKind, PictureType, RateKind, Structure};
 use m2v_strict::Element;
 
 /// A sequence, by its first header.
-#[derive(Clone, Copy, Debug, PartialEq, Eq)]
+#[derive(Clone, Copy)]
 pub struct SequenceRecord {
     pub sequence: u64,
     pub bit: u64,
@@ -24,7 +24,7 @@ pub struct SequenceRecord {
 }
 
 /// A group of pictures header.
-#[derive(Clone, Copy, Debug, PartialEq, Eq)]
+#[derive(Clone, Copy)]
 pub struct GroupRecord {
     pub sequence: u64,
     /// Its number in the sequence, from 0.
@@ -45,7 +45,7 @@ pub struct GroupRecord {
 }
 
 /// A picture.
-#[derive(Clone, Copy, Debug, PartialEq, Eq)]
+#[derive(Clone, Copy)]
 pub struct PictureRecord {
     pub sequence: u64,
     pub picture: u64,
@@ -65,7 +65,7 @@ pub struct PictureRecord {
 }
 
 /// What the decoder's buffer holds when a picture is removed from it.
-#[derive(Clone, Copy, Debug, PartialEq, Eq)]
+#[derive(Clone, Copy)]
 pub struct HeldRecord {
     pub sequence: u64,
     pub picture: u64,
@@ -84,7 +84,7 @@ pub struct HeldRecord {
 }
 
 /// A breach of a rule, or a warning.
-#[derive(Clone, Copy, Debug, PartialEq, Eq)]
+#[derive(Clone, Copy)]
 pub struct Finding {
     pub sequence: u64,
     pub picture: u64,
@@ -99,7 +99,7 @@ pub struct Finding {
 }
 
 /// A failure of the decoder's buffer.
-#[derive(Clone, Copy, Debug, PartialEq, Eq)]
+#[derive(Clone, Copy)]
 pub struct FailureRecord {
     pub sequence: u64,
     pub picture: u64,
@@ -116,7 +116,7 @@ pub struct FailureRecord {
 }
 
 /// How often a rule was told in a sequence.
-#[derive(Clone, Copy, Debug, PartialEq, Eq)]
+#[derive(Clone, Copy)]
 pub struct CountRecord {
     pub sequence: u64,
     pub rule: u8,
@@ -126,7 +126,7 @@ pub struct CountRecord {
 }
 
 /// What there was in a sequence, at its end.
-#[derive(Clone, Copy, Debug, PartialEq, Eq)]
+#[derive(Clone, Copy)]
 pub struct EndRecord {
     pub sequence: u64,
     pub pictures: u64,

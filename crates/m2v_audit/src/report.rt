@@ -19,7 +19,7 @@ use std::marker::Model;
 const VARIABLE: u128 = 65_535;
 
 /// A rule that is broken at a picture, or a warning.
-#[derive(Clone, Copy, Debug, PartialEq, Eq)]
+#[derive(Clone, Copy)]
 pub struct Broken {
     /// Its number in the sequence, in coding order.
     pub picture: u64,
@@ -36,7 +36,7 @@ pub struct Broken {
 }
 
 /// How the buffer of a sequence is filled.
-#[derive(Clone, Copy, Debug, PartialEq, Eq)]
+#[derive(Clone, Copy)]
 pub struct Rate {
     /// The rate is constant.
     pub constant: bool,
@@ -47,7 +47,7 @@ pub struct Rate {
 }
 
 /// What there was in a sequence, beside what the report counts.
-#[derive(Clone, Copy, Debug, PartialEq, Eq)]
+#[derive(Clone, Copy)]
 pub struct SequenceTotals {
     pub pictures: u64,
     /// The frames that are shown.

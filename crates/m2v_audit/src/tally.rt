@@ -6,7 +6,7 @@ use crate::account::Due;
 use m2v_vbv::Removed;
 
 /// How often a rule was broken.
-#[derive(Clone, Copy, Debug, PartialEq, Eq)]
+#[derive(Clone, Copy)]
 pub struct RuleCount {
     pub how_often: u64,
     /// The picture where it was broken first; 0 where it wasn't.
@@ -30,7 +30,7 @@ impl RuleCount {
 }
 
 /// What is counted of a sequence.
-#[derive(Clone, Copy, Debug, PartialEq, Eq)]
+#[derive(Clone, Copy)]
 pub struct Tally {
     /// How often each rule was broken: rule n in place n, and none in place 0.
     pub counts: [RuleCount; 96],

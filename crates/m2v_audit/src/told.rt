@@ -1,6 +1,6 @@
 //! What the report tells of a sequence header, a group header and a picture.
 ghost use Rattle.std.specs.Prelude.{◌≡◌, ◌≤◌, ◌^◌};
-ghost use Rattle.m2v_audit.specs.Auditing.{sequence_record, group_record, type_of, structure_of, bit_of, picture_record, is_constant, rate_with, waiting_of};
+ghost use Rattle.m2v_audit.specs.HeaderRecords.{sequence_record, group_record, type_of, structure_of, bit_of, picture_record, is_constant, rate_with, waiting_of};
 
 use crate::opening::VARIABLE;
 use crate::places::Waiting;

@@ -5,7 +5,7 @@ ghost use Rattle.m2v_audit.specs.Lines.{columns_lines, name_of, name_with, rate_
 use m2v_strict::Element;
 
 /// The rate at which the buffer is filled.
-#[derive(Clone, Copy, Debug, PartialEq, Eq)]
+#[derive(Clone, Copy)]
 pub enum RateKind {
     /// Always that of the sequence.
     Constant,
@@ -16,7 +16,7 @@ pub enum RateKind {
 }
 
 /// The type of a picture (picture_coding_type).
-#[derive(Clone, Copy, Debug, PartialEq, Eq)]
+#[derive(Clone, Copy)]
 pub enum PictureType {
     /// Intra-coded.
     I,
@@ -27,7 +27,7 @@ pub enum PictureType {
 }
 
 /// The structure of a picture (picture_structure).
-#[derive(Clone, Copy, Debug, PartialEq, Eq)]
+#[derive(Clone, Copy)]
 pub enum Structure {
     /// A frame.
     Frame,
@@ -38,7 +38,7 @@ pub enum Structure {
 }
 
 /// How the decoder's buffer fails at a picture.
-#[derive(Clone, Copy, Debug, PartialEq, Eq)]
+#[derive(Clone, Copy)]
 pub enum FailureKind {
     /// The picture isn't whole when it is due.
     Under,

@@ -17,7 +17,7 @@ use Rattle.m2v_model.specs.Buffering.{code_bits}
 use Rattle.m2v_audit.specs.declared.account.Due.{Due}
 use Rattle.m2v_audit.specs.declared.report.Rate.{Rate}
 use Rattle.m2v_audit.specs.Account.{Told, pictures, all_told}
-use Rattle.m2v_audit.specs.Auditing.{rate_with}
+use Rattle.m2v_audit.specs.HeaderRecords.{rate_with}
 use Rattle.m2v_audit.specs.Opening.{has_account, varies, buffer_bits_of, step_of, buffer_at_first}
 use Rattle.m2v_audit.specs.Report.{under_of, over_of}
 use Rattle.m2v_audit.proofs.Reports.{removals_told}

@@ -15,7 +15,7 @@ use Rattle.m2v_audit.specs.m2v_check.Breaking.{numbered_of}
 use Rattle.m2v_audit.specs.m2v_check.Running.{ends_frame}
 use Rattle.m2v_audit.specs.m2v_check.Laws.{Alternates}
 use Rattle.m2v_audit.specs.declared.places.Places.{Places}
-use Rattle.m2v_audit.specs.Auditing.{waiting_of}
+use Rattle.m2v_audit.specs.HeaderRecords.{waiting_of}
 use Rattle.m2v_audit.specs.Places.{no_places, with_field, with_frame, told_with_frame, group_closed, told_at_close}
 use Rattle.m2v_law_audit.proofs.BreachCounts.{many, many_none, many-append, place_breaches, other_rules, waits_as, one_header}
 use Rattle.m2v_law_audit.proofs.BreachPlaces.{Counted, ended, group_ended, counted_none, with_first, with_whole}

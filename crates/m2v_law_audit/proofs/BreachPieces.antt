@@ -17,7 +17,8 @@ use Rattle.m2v_audit.specs.declared.headers.PieceHeader.{PieceHeader}
 use Rattle.m2v_audit.specs.declared.headers.PieceHeader.TheVariants as headers
 use Rattle.m2v_audit.specs.declared.records.Finding.{Finding}
 use Rattle.m2v_audit.specs.declared.auditing.Auditing.{Auditing}
-use Rattle.m2v_audit.specs.Auditing.{leading, behind, bit_of, coded, preceding, counted, waiting_of, with_sequence, with_group, with_header, sequences_of, with_headers, with_note as noted_with, with_coded as coded_with}
+use Rattle.m2v_audit.specs.Auditing.{leading, behind, coded, preceding, counted, with_sequence, with_group, with_header, sequences_of, with_headers, with_note as noted_with, with_coded as coded_with}
+use Rattle.m2v_audit.specs.HeaderRecords.{bit_of, waiting_of}
 use Rattle.m2v_audit.specs.Places.{told_with_frame, told_at_close}
 use Rattle.m2v_law_audit.specs.Breaches.{as_judged}
 use Rattle.m2v_law_audit.specs.Found.{judged_in, found_at, found_misplaced, sequence_found, group_found, picture_found, header_found, headers_found, rules_of, places_found, coded_found, note_found}

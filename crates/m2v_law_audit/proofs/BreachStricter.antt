@@ -37,7 +37,7 @@ use Rattle.m2v_audit.specs.m2v_strict.SetRules.{set_remarks, set_group_remarks, 
 use Rattle.m2v_audit.specs.declared.auditing.PieceEnd.{PieceEnd}
 use Rattle.m2v_audit.specs.declared.records.Finding.{Finding}
 use Rattle.m2v_audit.specs.declared.remarks.Behind.{Behind}
-use Rattle.m2v_audit.specs.Auditing.{bit_of}
+use Rattle.m2v_audit.specs.HeaderRecords.{bit_of}
 use Rattle.m2v_audit.specs.Findings.{remarked_at}
 use Rattle.m2v_audit.specs.Times.{fields_of}
 use Rattle.m2v_audit.specs.Report.{finding_of}

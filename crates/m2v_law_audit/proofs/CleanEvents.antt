@@ -22,7 +22,8 @@ use Rattle.m2v_audit.specs.declared.headers.PieceHeader.TheVariants as headers
 use Rattle.m2v_audit.specs.declared.auditing.Auditing.{Auditing}
 use Rattle.m2v_audit.specs.declared.records.Finding.{Finding}
 use Rattle.m2v_audit.specs.declared.remarks.Behind.{Behind}
-use Rattle.m2v_audit.specs.Auditing.{with_note as noted_with, leading, behind, bit_of, coded, preceding, counted, waiting_of, with_sequence, with_group, with_header, sequences_of, with_headers}
+use Rattle.m2v_audit.specs.Auditing.{with_note as noted_with, leading, behind, coded, preceding, counted, with_sequence, with_group, with_header, sequences_of, with_headers}
+use Rattle.m2v_audit.specs.HeaderRecords.{bit_of, waiting_of}
 use Rattle.m2v_audit.specs.Places.{told_with_frame, told_at_close}
 use Rattle.m2v_law_audit.specs.Found.{found_at, found_misplaced, sequence_found, group_found, picture_found, header_found, headers_found, rules_of, coded_found, note_found, end_found, end_found_by}
 use Rattle.m2v_law_audit.proofs.BreachCounts.{other_rules}

@@ -27,7 +27,7 @@ use Rattle.m2v_audit.specs.declared.auditing.PieceEnd.{PieceEnd}
 use Rattle.m2v_audit.specs.declared.places.Misplaced.{Misplaced}
 use Rattle.m2v_audit.specs.declared.records.Finding.{Finding}
 use Rattle.m2v_audit.specs.declared.remarks.Behind.{Behind}
-use Rattle.m2v_audit.specs.Auditing.{bit_of}
+use Rattle.m2v_audit.specs.HeaderRecords.{bit_of}
 use Rattle.m2v_audit.specs.Findings.{remarked_at}
 use Rattle.m2v_audit.specs.Report.{finding_of}
 use Rattle.m2v_audit.specs.Times.{fields_of}

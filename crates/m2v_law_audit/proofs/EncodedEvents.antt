@@ -15,12 +15,12 @@ use Rattle.m2v_model.specs.Pictures.{Picture, Events, sequence_header, group_hea
 use Rattle.m2v_model.specs.PieceNotes.{note_of}
 use Rattle.m2v_model.specs.States.{is_b}
 use Rattle.m2v_audit.specs.m2v_strict.OrderRules.{leads}
-use Rattle.m2v_law_headline.specs.m2v_law_shown.m2v_slice.Headers.{begins_group, group_from, picture_of}
-use Rattle.m2v_law_headline.specs.m2v_law_shown.Own.{IsPictureOf, FitsScan}
-use Rattle.m2v_law_headline.specs.m2v_law_shown.Telling.{headers, told_all, IsMade}
-use Rattle.m2v_law_headline.specs.m2v_law_shown.Told.{Made, job_in}
-use Rattle.m2v_law_headline.specs.m2v_law_tree.Trees.{sequence_by}
-use Rattle.m2v_law_headline.proofs.m2v_law_shown.Jobs.{IsFit, group_fits}
+use Rattle.m2v_law_shown.specs.m2v_slice.Headers.{begins_group, group_from, picture_of}
+use Rattle.m2v_law_shown.specs.Own.{IsPictureOf, FitsScan}
+use Rattle.m2v_law_shown.specs.Telling.{headers, told_all, IsMade}
+use Rattle.m2v_law_shown.specs.Told.{Made, job_in}
+use Rattle.m2v_law_shown.specs.m2v_law_tree.Trees.{sequence_by}
+use Rattle.m2v_law_shown.proofs.Jobs.{IsFit, group_fits}
 use Rattle.m2v_law_audit.proofs.BreachEvents.{coming, rate_behind, with_note}
 use Rattle.m2v_law_audit.proofs.CleanRemarks.{PictureMayBe}
 use Rattle.m2v_law_audit.proofs.CleanEvents.{Before, before_first, headed_by, before_with, leads_with, MayBePicture}

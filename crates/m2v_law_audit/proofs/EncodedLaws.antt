@@ -16,19 +16,19 @@ use Rattle.m2v_audit.specs.m2v_check.Meaning.{IsLawful}
 use Rattle.m2v_audit.specs.m2v_strict.declared.rule_set.RuleSet.TheVariants as sets
 use Rattle.m2v_audit.specs.declared.asked.Asked.{Asked}
 use Rattle.m2v_audit.specs.Auditing.{nothing}
-use Rattle.m2v_law_headline.specs.m2v_enc_stream.Streams.{Coded}
-use Rattle.m2v_law_headline.specs.m2v_law_shown.m2v_slice.Headers.{picture_of}
-use Rattle.m2v_law_headline.specs.m2v_law_shown.Own.{FitsScan}
-use Rattle.m2v_law_headline.specs.m2v_law_shown.Telling.{IsMade}
-use Rattle.m2v_law_headline.specs.m2v_law_shown.Told.{Made, job_in, picture_in, number_picture, numbers_of}
-use Rattle.m2v_law_headline.specs.m2v_law_tree.Trees.{sequence_by, groups_of, tree_of}
-use Rattle.m2v_law_headline.proofs.m2v_law_tree.Streams.{stream_stands}
-use Rattle.m2v_law_headline.proofs.m2v_law_shown.Account.{tells_numbers}
-use Rattle.m2v_law_headline.proofs.m2v_law_shown.Decodes.{spelled}
-use Rattle.m2v_law_headline.proofs.m2v_law_shown.Good.{are_groups}
-use Rattle.m2v_law_headline.proofs.Headline.{headline, told, account_same}
-use Rattle.m2v_law_headline.proofs.ToldAccounts.{account_sent, account_is}
-use Rattle.m2v_law_headline.proofs.ToldDelays.{all_exact}
+use Rattle.m2v_law_shown.specs.m2v_enc_stream.Streams.{Coded}
+use Rattle.m2v_law_shown.specs.m2v_slice.Headers.{picture_of}
+use Rattle.m2v_law_shown.specs.Own.{FitsScan}
+use Rattle.m2v_law_shown.specs.Telling.{IsMade}
+use Rattle.m2v_law_shown.specs.Told.{Made, job_in, picture_in, number_picture, numbers_of}
+use Rattle.m2v_law_shown.specs.m2v_law_tree.Trees.{sequence_by, groups_of, tree_of}
+use Rattle.m2v_law_shown.proofs.m2v_law_tree.Streams.{stream_stands}
+use Rattle.m2v_law_shown.proofs.Account.{tells_numbers}
+use Rattle.m2v_law_shown.proofs.Decodes.{spelled}
+use Rattle.m2v_law_shown.proofs.Good.{are_groups}
+use Rattle.m2v_law_shown.proofs.Headline.{headline, told, account_same}
+use Rattle.m2v_law_shown.proofs.ToldAccounts.{account_sent, account_is}
+use Rattle.m2v_law_shown.proofs.ToldDelays.{all_exact}
 use Rattle.m2v_law_audit.specs.Sequences.{first_byte}
 use Rattle.m2v_law_audit.specs.Verdicts.{FindsNothing}
 use Rattle.m2v_law_audit.specs.Encoded.{IsFoundClean}

@@ -27,7 +27,7 @@ use Rattle.m2v_audit.specs.declared.account.Due.{Due}
 use Rattle.m2v_audit.specs.declared.records.FailureRecord.{FailureRecord}
 use Rattle.m2v_audit.specs.declared.report.Rate.{Rate}
 use Rattle.m2v_audit.specs.Account.{pictures, all_told}
-use Rattle.m2v_audit.specs.Auditing.{rate_with}
+use Rattle.m2v_audit.specs.HeaderRecords.{rate_with}
 use Rattle.m2v_audit.specs.Opening.{has_account, varies, step_of, start_of, buffer_at_first}
 use Rattle.m2v_audit.specs.Times.{Times, opened}
 use Rattle.m2v_audit.proofs.m2v_check.Ordered.{code_within}

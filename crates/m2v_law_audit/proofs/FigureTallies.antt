@@ -40,7 +40,8 @@ use Rattle.m2v_audit.specs.declared.report.Broken.{Broken}
 use Rattle.m2v_audit.specs.declared.report.Rate.{Rate}
 use Rattle.m2v_audit.specs.declared.report.SequenceTotals.{SequenceTotals}
 use Rattle.m2v_audit.specs.Account.{Account, Told, settled}
-use Rattle.m2v_audit.specs.Auditing.{nothing, sequence_of, leading, behind, frame_at, with_shown, with_parity, with_waiting, with_ending, with_end_remarks, longer, begun, begun_by, with_sequence_remarks, group_record, with_group_by, with_header, sequences_of, with_headers, bit_of, coded, preceding, counted, picture_record, with_rules, with_picture_remarks, with_all_remarks, with_told, with_place, with_coded, with_note, settled_by, with_others, fronted, pictured, after_piece, cleared, totals_of, with_left, finished, ended}
+use Rattle.m2v_audit.specs.Auditing.{nothing, sequence_of, leading, behind, frame_at, with_shown, with_parity, with_waiting, with_ending, with_end_remarks, longer, begun, begun_by, with_sequence_remarks, with_group_by, with_header, sequences_of, with_headers, coded, preceding, counted, with_rules, with_picture_remarks, with_all_remarks, with_told, with_place, with_coded, with_note, settled_by, with_others, fronted, pictured, after_piece, cleared, totals_of, with_left, finished, ended}
+use Rattle.m2v_audit.specs.HeaderRecords.{group_record, bit_of, picture_record}
 use Rattle.m2v_audit.specs.Findings.{broken_at, remarked_at, misplaced_at, with_breaches, with_remarks, with_misplaced, with_removals}
 use Rattle.m2v_audit.specs.Front.{front_of}
 use Rattle.m2v_audit.specs.Others.{others_of, display_of, own_bit, own_remarks, with_own_remarks, headed_remarks}

@@ -20,10 +20,10 @@ use Rattle.m2v_model.specs.Buffering.{bits_of_piece}
 use Rattle.m2v_model.proofs.CutLaws.{cuts_is}
 use Rattle.m2v_model.proofs.Ends.{end_bytes}
 use Rattle.m2v_model.proofs.Units.{packs_append, cuts_of}
-use Rattle.m2v_law_headline.proofs.Groupings.{IsInner, IsPiece, IsFirst, by_value, inner_on, plain_piece, all_of, pieces_all}
-use Rattle.m2v_law_headline.proofs.Lengths.{bytes_by}
-use Rattle.m2v_law_headline.proofs.PictureUnits.{slice_goes, slice_inner, inner_map}
-use Rattle.m2v_law_headline.proofs.Streams.{ends_here}
+use Rattle.m2v_law_shown.proofs.Groupings.{IsInner, IsPiece, IsFirst, by_value, inner_on, plain_piece, all_of, pieces_all}
+use Rattle.m2v_law_shown.proofs.Lengths.{bytes_by}
+use Rattle.m2v_law_shown.proofs.PictureUnits.{slice_goes, slice_inner, inner_map}
+use Rattle.m2v_law_shown.proofs.StreamPieces.{ends_here}
 
 -- ---- slices
 

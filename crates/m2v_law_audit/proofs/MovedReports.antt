@@ -44,7 +44,8 @@ use Rattle.m2v_audit.specs.declared.report.SequenceTotals.{SequenceTotals}
 use Rattle.m2v_audit.specs.declared.tally.RuleCount.{RuleCount}
 use Rattle.m2v_audit.specs.declared.tally.Tally.{Tally}
 use Rattle.m2v_audit.specs.Account.{Told}
-use Rattle.m2v_audit.specs.Auditing.{bit_of, with_shown, with_end_remarks, with_sequence_remarks, with_group_by, with_rules, with_picture_remarks, with_all_remarks}
+use Rattle.m2v_audit.specs.Auditing.{with_shown, with_end_remarks, with_sequence_remarks, with_group_by, with_rules, with_picture_remarks, with_all_remarks}
+use Rattle.m2v_audit.specs.HeaderRecords.{bit_of}
 use Rattle.m2v_audit.specs.Findings.{broken_at, remarked_at, misplaced_at, with_breaches, with_remarks, with_misplaced, with_removals}
 use Rattle.m2v_audit.specs.Lines.{skipped_line, sequence_line, group_line, picture_line, held_line, breach_line, warning_line, failure_line, count_line, end_line}
 use Rattle.m2v_audit.specs.Report.{Report, with_text, with_rule, with_warned, with_failing, with_due, finding_of, with_breach, with_warning, with_finding, held_of, under_of, over_of, with_failure, with_held, with_under, with_over, is_far, far_at, with_far, with_removal, with_begin, with_group_line, with_picture_line, count_of, with_count, with_counts, end_of, with_end}

@@ -29,7 +29,8 @@ use Rattle.m2v_audit.specs.declared.places.Places.{Places}
 use Rattle.m2v_audit.specs.declared.places.Waiting.{Waiting}
 use Rattle.m2v_audit.specs.declared.words.RateKind.{RateKind}
 use Rattle.m2v_audit.specs.Account.{Account, settled}
-use Rattle.m2v_audit.specs.Auditing.{sequence_of, leading, behind, ends_code, with_ending, frame_at, with_shown, with_parity, longer, sequence_record, with_first, begun_by, begun, with_sequence, group_record, with_group, with_header, sequences_of, with_headers, bit_of, coded, preceding, counted, picture_record, with_told, waiting_of, with_place, due_of, account_by, with_account, with_coded, with_note, settled_by, pictured, with_settled}
+use Rattle.m2v_audit.specs.Auditing.{sequence_of, leading, behind, ends_code, with_ending, frame_at, with_shown, with_parity, longer, with_first, begun_by, begun, with_sequence, with_group, with_header, sequences_of, with_headers, coded, preceding, counted, with_told, with_place, due_of, account_by, with_account, with_coded, with_note, settled_by, pictured, with_settled}
+use Rattle.m2v_audit.specs.HeaderRecords.{sequence_record, group_record, bit_of, picture_record, waiting_of}
 use Rattle.m2v_audit.specs.Findings.{with_misplaced, with_removals}
 use Rattle.m2v_audit.specs.Front.{group_told, group_at, header_at, headers_from, front_of}
 use Rattle.m2v_audit.specs.Lines.{sequence_line, group_line, picture_line}

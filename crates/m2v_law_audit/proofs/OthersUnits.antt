@@ -1,30 +1,21 @@
 -- Units that say nothing else before a first slice: of pieces of such units nothing is found of what else stands there.
-use Rattle.std.proofs.Common.{◌≡◌, ℕ, ◌+◌, ◌*◌, Bool, true, false, List, [], ◌∷◌, ◌++◌, length, Option, Some, None, Ok, Err, inl, inr, refl, sym, ap, subst, ◌∙◌}
-use Rattle.std.specs.Prelude.{nat_eq, slice_get, if◌then◌else◌}
+use Rattle.std.proofs.Common.{◌≡◌, ℕ, ◌+◌, ◌*◌, Bool, true, false, List, [], ◌∷◌, ◌++◌, length, Option, Some, None, Ok, Err, refl, sym, ap, subst, ◌∙◌}
+use Rattle.std.specs.Prelude.{nat_eq, if◌then◌else◌}
 use Rattle.std.specs.List.{AllByRecursion}
 use Rattle.std.proofs.ByRecursion.{All-append}
-use Rattle.std.proofs.lemmas.Bool.{cases_Bool}
-use Rattle.m2v_model.specs.m2v_macroblock.m2v_head.declared.sequence.SequenceInfo.{SequenceInfo}
-use Rattle.m2v_model.specs.m2v_macroblock.m2v_head.declared.sequence.SequenceExtension.{SequenceExtension}
-use Rattle.m2v_model.specs.declared.state.Sequence.{Sequence}
-use Rattle.m2v_model.specs.declared.notes.PictureNote.{PictureNote}
 use Rattle.m2v_model.specs.Units.{Units, cut}
-use Rattle.m2v_model.specs.Pieces.{zeros_last}
 use Rattle.m2v_model.specs.PieceNotes.{PieceNotes, notes_of}
 use Rattle.m2v_model.specs.Streams.{value_of}
 use Rattle.m2v_model.specs.ByPieces.{Between, Course, piece_read}
-use Rattle.m2v_audit.specs.m2v_check.Running.{ends_frame}
 use Rattle.m2v_audit.specs.m2v_strict.declared.display.Display.{Display}
 use Rattle.m2v_audit.specs.m2v_strict.OtherRules.{extra_rule, beside_first, display_rule}
 use Rattle.m2v_audit.specs.declared.auditing.Auditing.{Auditing}
-use Rattle.m2v_audit.specs.declared.headers.PieceHeader.{PieceHeader}
-use Rattle.m2v_audit.specs.declared.headers.PieceHeader.TheVariants as headers
 use Rattle.m2v_audit.specs.declared.others.Other.{Other}
 use Rattle.m2v_audit.specs.declared.others.Other.TheVariants as others
-use Rattle.m2v_audit.specs.Account.{Account}
-use Rattle.m2v_audit.specs.Auditing.{with_header, sequences_of, with_headers, with_display, with_others, with_note, with_ending, settled_by, begun, begun_by, longer, pictured, after_piece, cleared}
+use Rattle.m2v_audit.specs.Auditing.{with_headers, with_display, begun, longer, after_piece, cleared}
 use Rattle.m2v_audit.specs.Front.{front_of}
 use Rattle.m2v_audit.specs.Others.{other_at, is_slice, others_from, others_of, display_of, own_remarks, own_bit, display_remarks, headed_remarks, first_display, display_behind}
+use Rattle.m2v_audit.proofs.Counted.{headed_stays, shown_stays}
 use Rattle.m2v_law_audit.specs.Found.{remarks_found, display_found, others_found, along, all_along}
 use Rattle.m2v_law_audit.proofs.CleanOthers.{piece_others, all_others}
 
@@ -105,36 +96,6 @@ none_behind true (Some None) h = tt
 none_behind true (Some (Some d)) h = absurd h
 none_behind false first h = h
 
--- ---- what is kept of it stays through headers and pictures
-
-one_shows : (a : Auditing) (h : PieceHeader) (s : Option (SequenceInfo × SequenceExtension)) → (with_header a h s).display ≡ a.display
-unfolding with_header
-one_shows a (headers.Sequence bit) None = refl
-one_shows a (headers.Sequence bit) (Some s) = refl
-one_shows a (headers.Group bit g) s = refl
-
-all_show : (a : Auditing) (ss : List (SequenceInfo × SequenceExtension)) (k : ℕ) (hs : List PieceHeader) → (with_headers a ss k hs).display ≡ a.display
-unfolding with_headers
-all_show a ss k [] = refl
-all_show a ss k (h ∷ hs) = all_show (with_header a h (slice_get ss k)) ss (k + sequences_of h) hs ∙ one_shows a h (slice_get ss k)
-
-begun_shows : (first : Option Sequence) (a : Auditing) (place : ℕ) (notes : PieceNotes) → (begun first a place notes).display ≡ a.display
-begun_shows (Some s) a place notes = refl
-begun_shows None a place notes = by (slice_get notes.sequences 0)
-  where
-    by : (s : Option (SequenceInfo × SequenceExtension)) → (begun_by a place s notes.picture).display ≡ a.display
-    by None = refl
-    by (Some s) = refl
-
-note_shows : (a : Auditing) (s : Option Sequence) (n : Option PictureNote) (place bytes ending : ℕ) → (with_note a s n place bytes ending).display ≡ a.display
-note_shows a s None place bytes ending = refl
-note_shows a None (Some n) place bytes ending = refl
-note_shows a (Some s) (Some n) place bytes ending = elim (cases_Bool (ends_frame n)) [ inl on ↦ rw on refl | inr off ↦ rw off refl ]
-
-settled_shows : (a : Auditing) (x : Option Account) → (settled_by a x).display ≡ a.display
-settled_shows a None = refl
-settled_shows a (Some x) = refl
-
 -- ---- pieces
 
 -- each unit of a piece says nothing else
@@ -152,12 +113,10 @@ passed a place p notes d silent =
     let os : List Other = others_of place p in
     let headed : Auditing = with_headers (begun b.first b place notes) notes.sequences 0 (front_of place p) in
     let front : Auditing = with_display place os headed in
-    let behind : Auditing = pictured front place (length p) (zeros_last p) notes.picture in
-    let last : Auditing = with_ending place p (with_others front.pictures os behind) in
     let are : AreSilent os = units_silent (8 * place) (cut 0 p).1 silent in
     let shown : display_of os ≡ None = none_shown os are in
     let kept : IsNone headed.display =
-    subst IsNone (sym (all_show (begun b.first b place notes) notes.sequences 0 (front_of place p) ∙ begun_shows b.first b place notes)) d in
+    subst IsNone (sym (headed_stays b place p notes).display) d in
     let first : display_found place os headed ≡ [] =
     ap (λ (x : Option Display). remarks_found headed.report.sequence headed.pictures (8 * place) (headed_remarks headed.headed headed.display x)) shown
     ∙ ap (remarks_found headed.report.sequence headed.pictures (8 * place)) (headed_none headed.headed headed.display kept)
@@ -167,7 +126,7 @@ passed a place p notes d silent =
     subst (λ (x : Option Display). IsNone (display_behind headed.headed headed.display x)) (sym shown) (none_behind headed.headed headed.display kept) in
     record {
       none = (λ i. first i ++ later i);
-      next = subst IsNone (sym (settled_shows last last.account ∙ note_shows front front.sequence notes.picture place (length p) (zeros_last p))) stays;
+      next = subst IsNone (sym (shown_stays front place p notes os).display) stays;
     }
 
 -- nothing is found from here on

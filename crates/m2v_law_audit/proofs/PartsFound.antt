@@ -40,7 +40,8 @@ use Rattle.m2v_audit.specs.declared.remarks.Behind.{Behind}
 use Rattle.m2v_audit.specs.declared.report.Rate.{Rate}
 use Rattle.m2v_audit.specs.declared.report.SequenceTotals.{SequenceTotals}
 use Rattle.m2v_audit.specs.Account.{Account, Told}
-use Rattle.m2v_audit.specs.Auditing.{bit_of, with_sequence_remarks, with_group_by, with_rules, with_all_remarks, with_shown, with_left, with_end_remarks}
+use Rattle.m2v_audit.specs.Auditing.{with_sequence_remarks, with_group_by, with_rules, with_all_remarks, with_shown, with_left, with_end_remarks}
+use Rattle.m2v_audit.specs.HeaderRecords.{bit_of}
 use Rattle.m2v_audit.specs.Findings.{broken_at, remarked_at, misplaced_at, with_breaches, with_remarks, with_misplaced, with_removals}
 use Rattle.m2v_audit.specs.Others.{own_bit, own_remarks, with_own_remarks}
 use Rattle.m2v_audit.specs.Lines.{skipped_line, sequence_line, group_line, picture_line, held_line, warning_line, count_line, end_line}

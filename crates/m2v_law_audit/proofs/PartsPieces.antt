@@ -24,7 +24,8 @@ use Rattle.m2v_audit.specs.declared.places.Places.{Places}
 use Rattle.m2v_audit.specs.declared.records.Finding.{Finding}
 use Rattle.m2v_audit.specs.declared.records.FailureRecord.{FailureRecord}
 use Rattle.m2v_audit.specs.Account.{Account, settled}
-use Rattle.m2v_audit.specs.Auditing.{sequence_of, longer, begun, begun_by, leading, behind, group_record, with_header, sequences_of, with_headers, coded, preceding, counted, waiting_of, picture_record, with_told, with_place, frame_at, with_shown, with_coded, with_note, settled_by, with_others, fronted, pictured, with_ending, after_piece, with_waiting, totals_of, finished}
+use Rattle.m2v_audit.specs.Auditing.{sequence_of, longer, begun, begun_by, leading, behind, with_header, sequences_of, with_headers, coded, preceding, counted, with_told, with_place, frame_at, with_shown, with_coded, with_note, settled_by, with_others, fronted, pictured, with_ending, after_piece, with_waiting, totals_of, finished}
+use Rattle.m2v_audit.specs.HeaderRecords.{group_record, waiting_of, picture_record}
 use Rattle.m2v_audit.specs.Findings.{with_misplaced}
 use Rattle.m2v_audit.specs.Front.{front_of}
 use Rattle.m2v_audit.specs.Others.{others_of, display_of, headed_remarks}

@@ -16,7 +16,8 @@ use Rattle.m2v_audit.specs.declared.records.FailureRecord.{FailureRecord}
 use Rattle.m2v_audit.specs.declared.report.Rate.{Rate}
 use Rattle.m2v_audit.specs.declared.account.Due.{Due}
 use Rattle.m2v_audit.specs.Account.{all_told}
-use Rattle.m2v_audit.specs.Auditing.{nothing, sequence_of, rate_with}
+use Rattle.m2v_audit.specs.Auditing.{nothing, sequence_of}
+use Rattle.m2v_audit.specs.HeaderRecords.{rate_with}
 use Rattle.m2v_audit.proofs.m2v_check.Telling.{first_in, last_in}
 use Rattle.m2v_audit.proofs.m2v_check.Onward.{none_or_one}
 use Rattle.m2v_audit.specs.declared.asked.Asked.{Asked}

@@ -19,7 +19,8 @@ use Rattle.m2v_audit.specs.declared.account.Due.{Due}
 use Rattle.m2v_audit.specs.declared.auditing.Auditing.{Auditing}
 use Rattle.m2v_audit.specs.declared.report.Rate.{Rate}
 use Rattle.m2v_audit.specs.Account.{Told, all_told, Account, opened, with_picture, with_more, settled, settled_of, behind_settled, after_settled, reported}
-use Rattle.m2v_audit.specs.Auditing.{nothing, longer, begun, begun_by, rate_with, opened_by, account_by}
+use Rattle.m2v_audit.specs.Auditing.{nothing, longer, begun, begun_by, opened_by, account_by}
+use Rattle.m2v_audit.specs.HeaderRecords.{rate_with}
 use Rattle.m2v_audit.specs.Opening.{first_buffer}
 use Rattle.m2v_audit.specs.Times.{Times, opened as first_times, after}
 use Rattle.m2v_audit.proofs.Reports.{told_in_all}

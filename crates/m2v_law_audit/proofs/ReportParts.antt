@@ -14,7 +14,8 @@ use Rattle.m2v_audit.specs.declared.records.Finding.{Finding}
 use Rattle.m2v_audit.specs.declared.records.FailureRecord.{FailureRecord}
 use Rattle.m2v_audit.specs.declared.report.Rate.{Rate}
 use Rattle.m2v_audit.specs.Account.{Told}
-use Rattle.m2v_audit.specs.Auditing.{nothing, sequence_of, rate_with, cleared, after_piece, ended, ended_by}
+use Rattle.m2v_audit.specs.Auditing.{nothing, sequence_of, cleared, after_piece, ended, ended_by}
+use Rattle.m2v_audit.specs.HeaderRecords.{rate_with}
 use Rattle.m2v_audit.specs.Report.{Report}
 use Rattle.m2v_audit.specs.declared.asked.Asked.{Asked}
 use Rattle.m2v_law_audit.specs.Sequences.{SequenceReport, at_end, behind, by_piece, reported, first_byte, sequence_report}

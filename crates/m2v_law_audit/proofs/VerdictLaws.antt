@@ -19,7 +19,7 @@ use Rattle.m2v_audit.specs.m2v_check.Meaning.{IsLawful}
 use Rattle.m2v_audit.specs.declared.records.Finding.{Finding}
 use Rattle.m2v_audit.specs.declared.records.FailureRecord.{FailureRecord}
 use Rattle.m2v_audit.specs.declared.report.Rate.{Rate}
-use Rattle.m2v_audit.specs.Auditing.{rate_with}
+use Rattle.m2v_audit.specs.HeaderRecords.{rate_with}
 use Rattle.m2v_audit.specs.Opening.{has_account, buffer_at_first}
 use Rattle.m2v_audit.specs.declared.asked.Asked.{Asked}
 use Rattle.m2v_law_audit.specs.Sequences.{first_byte, sequence_report}

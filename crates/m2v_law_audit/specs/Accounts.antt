@@ -19,7 +19,7 @@ use Rattle.m2v_audit.specs.declared.records.FailureRecord.{FailureRecord}
 use Rattle.m2v_audit.specs.declared.report.Rate.{Rate}
 use Rattle.m2v_audit.specs.declared.words.FailureKind.TheVariants as kinds
 use Rattle.m2v_audit.specs.Account.{Told, pictures, all_told}
-use Rattle.m2v_audit.specs.Auditing.{rate_with}
+use Rattle.m2v_audit.specs.HeaderRecords.{rate_with}
 use Rattle.m2v_audit.specs.Opening.{first_buffer}
 use Rattle.m2v_audit.specs.Times.{Times, IsOnce, opened, time_of, after}
 use Rattle.m2v_audit.specs.declared.asked.Asked.{Asked}

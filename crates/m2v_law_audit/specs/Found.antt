@@ -39,7 +39,8 @@ use Rattle.m2v_audit.specs.declared.report.Rate.{Rate}
 use Rattle.m2v_audit.specs.Account.{Account, Told, settled, ended as all_left}
 use Rattle.m2v_audit.specs.declared.auditing.Auditing.{Auditing}
 use Rattle.m2v_audit.specs.declared.auditing.PieceEnd.{PieceEnd}
-use Rattle.m2v_audit.specs.Auditing.{nothing, sequence_of, sequences_of, leading, behind, bit_of, coded, preceding, counted, waiting_of, with_header, with_headers, with_display, begun, longer, fronted, pictured, cleared, after_piece}
+use Rattle.m2v_audit.specs.Auditing.{nothing, sequence_of, sequences_of, leading, behind, coded, preceding, counted, with_header, with_headers, with_display, begun, longer, fronted, pictured, cleared, after_piece}
+use Rattle.m2v_audit.specs.HeaderRecords.{bit_of, waiting_of}
 use Rattle.m2v_audit.specs.Findings.{broken_at, remarked_at, misplaced_at}
 use Rattle.m2v_audit.specs.Front.{front_of}
 use Rattle.m2v_audit.specs.Others.{others_of, display_of, own_remarks, own_bit, headed_remarks}

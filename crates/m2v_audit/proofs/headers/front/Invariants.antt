@@ -1,9 +1,10 @@
 use Rattle.std.proofs.Common.{length}
-use Rattle.m2v_audit.proofs.Placed.{Fronted}
+use Rattle.m2v_audit.specs.Front.{headers_from}
+use Rattle.m2v_audit.proofs.Walks.{Walked}
 use Rattle.m2v_audit.proofs.headers.front.Given as goal
 
 abbrev pub invariant-loop-u : goal.invariant-loop-u
-invariant-loop-u l = Fronted l.bit l.fn.units l.headers.items l.at l.units
+invariant-loop-u l = Walked headers_from l.bit l.fn.units l.headers.items l.at l.units
 
 abbrev pub decreases-loop-u : goal.decreases-loop-u
 decreases-loop-u l = length l.units
