@@ -293,6 +293,16 @@ impl Cutter {
         self.ended = false;
     }
 
+    /// Takes what is left as pieces from its first byte on, as if a sequence header stood before it: so nothing is passed
+    /// over, and the first piece has what stands before the first start code. Places and limits count on.
+    pub fn begin_within(&mut self)
+        requires going { self.old.failed ≡ false }
+        ensures { self.new ≡ record self.old { begun = true; ended = false } }
+    {
+        self.hand.go_within();
+        self.ended = false;
+    }
+
     /// The place of what was read and neither handed out nor passed over before the first piece.
     pub fn place(&self) -> u64
         ensures value { result ≡ self.now.place }

@@ -425,4 +425,12 @@ impl Hand {
     {
         self.phase = Phase::Before;
     }
+
+    /// Pieces follow from the next byte on, whether a sequence header stands there or not.
+    pub fn go_within(&mut self)
+        requires none { self.old.sure ≡ [] }
+        ensures { self.new ≡ record self.old { phase = Phase.Headers } }
+    {
+        self.phase = Phase::Headers;
+    }
 }

@@ -1,4 +1,4 @@
-ghost use Rattle.std.specs.Prelude.{◌≡◌, ◌+◌, ◌≤◌, ◌^◌, true, false, IfOk, IfErr, OnOk, Err};
+ghost use Rattle.std.specs.Prelude.{◌≡◌, ◌+◌, ◌≤◌, ◌^◌, true, false, IfOk, IfErr, OnOk, Err, is_some};
 ghost use Rattle.m2v_model.specs.ByPieces.{end_read};
 ghost use Rattle.m2v_dec_piece.specs.Sound.{IsSoundPiece};
 ghost use Rattle.m2v_decode.specs.Decoding.{Decoding, between, whole_of, Refuses, Finished};
@@ -11,7 +11,7 @@ use crate::reading::text_ends;
 use m2v_dec_piece::{DecodeError, Fault, Piece};
 use m2v_dec_rows::dec_picture::SlicePass;
 use m2v_dec_rows::dec_unit::{UnitReader, code_bits, first_state};
-use m2v_model::Notes;
+use m2v_model::{Notes, Sequence};
 use std::alloc::Global;
 use std::marker::Model;
 use std::mem;
@@ -88,6 +88,20 @@ impl Reader {
         ensures { result ≡ self.now.frames }
     {
         self.pass.frames
+    }
+
+    /// The first sequence header, once there is one.
+    pub fn first(&self) -> Option<Sequence>
+        ensures { result ≡ self.now.state.first }
+    {
+        self.pass.state.first
+    }
+
+    /// A first field waits for its second: the stream may not end here.
+    pub fn waits(&self) -> bool
+        ensures { result ≡ is_some self.now.state.waiting }
+    {
+        self.pass.state.waiting.is_some()
     }
 
     /// Reads a piece, of those of one text in order, each as a cutter hands it out. Answers what is noted of it.
