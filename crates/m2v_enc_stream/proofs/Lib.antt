@@ -15,4 +15,25 @@ pub mod Exact
 pub mod Begins
 pub mod Units
 pub mod Fronts
+pub mod Levels
+pub mod Decoded
+pub mod Insides
+pub mod Macroblocks
+pub mod Rounds
+pub mod Slices
+pub mod CalmSyntax
+pub mod CalmBlocks
+pub mod CalmMacros
+pub mod CalmSlices
+pub mod CalmHeaders
+pub mod Follows
+pub mod TreeGroups
+pub mod Headers
+pub mod PictureChains
+pub mod TreePictures
+pub mod SliceUnits
+pub mod States
+pub mod TreeStreams
+pub mod Turns
+pub mod Zeros
 pub use Rattle.m2v_slice.proofs as m2v_slice

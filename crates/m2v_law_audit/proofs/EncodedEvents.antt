@@ -19,7 +19,7 @@ use Rattle.m2v_law_shown.specs.m2v_slice.Headers.{begins_group, group_from, pict
 use Rattle.m2v_law_shown.specs.Own.{IsPictureOf, FitsScan}
 use Rattle.m2v_law_shown.specs.Telling.{headers, told_all, IsMade}
 use Rattle.m2v_law_shown.specs.Told.{Made, job_in}
-use Rattle.m2v_law_shown.specs.m2v_law_tree.Trees.{sequence_by}
+use Rattle.m2v_law_shown.specs.m2v_enc_stream.Trees.{sequence_by}
 use Rattle.m2v_law_shown.proofs.Jobs.{IsFit, group_fits}
 use Rattle.m2v_law_audit.proofs.BreachEvents.{coming, rate_behind, with_note}
 use Rattle.m2v_law_audit.proofs.CleanRemarks.{PictureMayBe}

@@ -14,7 +14,7 @@ use Rattle.m2v_audit.specs.m2v_strict.SequenceRules.{luma_bound, keeps_luma_rate
 use Rattle.m2v_audit.specs.m2v_strict.OrderRules.{leads, sequence_order_rule, group_order_rule}
 use Rattle.m2v_audit.specs.m2v_strict.GroupRules.{time_code_rule, drop_rule, passing_rule, broken_link_warning}
 use Rattle.m2v_law_shown.specs.m2v_slice.Headers.{sequence_of, frames_in_second, shown_number, group_from}
-use Rattle.m2v_law_shown.specs.m2v_law_tree.Trees.{sequence_by}
+use Rattle.m2v_law_shown.specs.m2v_enc_stream.Trees.{sequence_by}
 use Rattle.m2v_law_audit.specs.Encoded.{KeepsCodedLuma, IsWhole}
 use Rattle.m2v_law_audit.proofs.CleanRemarks.{MayBe, none, both, held, looked, bounded, sequence_warned, SequenceMayBe, GroupMayBe}
 use Rattle.m2v_law_audit.proofs.CleanHeaders.{MayBy, luma_may, same_header, same_extension}

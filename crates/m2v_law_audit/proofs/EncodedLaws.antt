@@ -21,8 +21,8 @@ use Rattle.m2v_law_shown.specs.m2v_slice.Headers.{picture_of}
 use Rattle.m2v_law_shown.specs.Own.{FitsScan}
 use Rattle.m2v_law_shown.specs.Telling.{IsMade}
 use Rattle.m2v_law_shown.specs.Told.{Made, job_in, picture_in, number_picture, numbers_of}
-use Rattle.m2v_law_shown.specs.m2v_law_tree.Trees.{sequence_by, groups_of, tree_of}
-use Rattle.m2v_law_shown.proofs.m2v_law_tree.Streams.{stream_stands}
+use Rattle.m2v_law_shown.specs.m2v_enc_stream.Trees.{sequence_by, groups_of, tree_of}
+use Rattle.m2v_law_shown.proofs.m2v_enc_stream.TreeStreams.{stream_stands}
 use Rattle.m2v_law_shown.proofs.Account.{tells_numbers}
 use Rattle.m2v_law_shown.proofs.Decodes.{spelled}
 use Rattle.m2v_law_shown.proofs.Good.{are_groups}

@@ -34,17 +34,17 @@ use Rattle.m2v_model.proofs.Units.{ended_bits}
 use Rattle.m2v_law_shown.specs.m2v_enc_stream.Streams.{Progress, at_start, book_of, group_coded, coded_all, Coded}
 use Rattle.m2v_law_shown.specs.m2v_slice.Headers.{picture_of, begins_group, IsJob}
 use Rattle.m2v_law_shown.specs.m2v_slice.Books.{rows, job_at}
-use Rattle.m2v_law_shown.specs.m2v_law_tree.Trees.{groups_of}
+use Rattle.m2v_law_shown.specs.m2v_enc_stream.Trees.{groups_of}
 use Rattle.m2v_law_shown.proofs.m2v_enc_stream.Queues.{coded_is}
 use Rattle.m2v_law_shown.proofs.m2v_enc_stream.m2v_slice.Groups.{passes_of, rows_few}
 use Rattle.m2v_law_shown.proofs.m2v_enc_stream.m2v_slice.Slices.{is_job}
 use Rattle.m2v_law_shown.proofs.Decodes.{spelled}
-use Rattle.m2v_law_shown.proofs.m2v_law_tree.Follows.{stream_follows}
-use Rattle.m2v_law_shown.proofs.m2v_law_tree.Groups.{pictures_units, done_of, ledger_of, MayFollow, group_units_of, AllFollow, groups_units, groups_add}
-use Rattle.m2v_law_shown.proofs.m2v_law_tree.PictureChains.{header_bytes, slices_bytes, picture_units_of, some_rows}
-use Rattle.m2v_law_shown.proofs.m2v_law_tree.Pictures.{sequence_bytes, extension_bytes, group_bytes, picture_bytes, coding_bytes}
-use Rattle.m2v_law_shown.proofs.m2v_law_tree.SliceUnits.{slice_bytes}
-use Rattle.m2v_law_shown.proofs.m2v_law_tree.Zeros.{padded, padded_cuts}
+use Rattle.m2v_law_shown.proofs.m2v_enc_stream.Follows.{stream_follows}
+use Rattle.m2v_law_shown.proofs.m2v_enc_stream.TreeGroups.{pictures_units, done_of, ledger_of, MayFollow, group_units_of, AllFollow, groups_units, groups_add}
+use Rattle.m2v_law_shown.proofs.m2v_enc_stream.PictureChains.{header_bytes, slices_bytes, picture_units_of, some_rows}
+use Rattle.m2v_law_shown.proofs.m2v_enc_stream.TreePictures.{sequence_bytes, extension_bytes, group_bytes, picture_bytes, coding_bytes}
+use Rattle.m2v_law_shown.proofs.m2v_enc_stream.SliceUnits.{slice_bytes}
+use Rattle.m2v_law_shown.proofs.m2v_enc_stream.Zeros.{padded, padded_cuts}
 use Rattle.m2v_audit.specs.Others.{display_id_at, display_at, vector_bits, extra_at, display_told, extra_told, matrices_told, display_in, extra_in, matrices_of, other_at}
 use Rattle.m2v_law_audit.proofs.OthersUnits.{AreSilent, IsSilent, silent_plain}
 

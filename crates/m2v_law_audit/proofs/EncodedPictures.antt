@@ -26,7 +26,7 @@ use Rattle.m2v_audit.specs.m2v_strict.OrderRules.{first_type_rule}
 use Rattle.m2v_audit.specs.m2v_strict.PictureRules.{low_delay_rule, delay_rule, unused_rule, f_code_rule, full_pel_rule, field_rule, prediction_rule, top_first_rule, interlaced_rule, repeat_by_rate_rule, chroma_rule}
 use Rattle.m2v_law_shown.specs.m2v_slice.Headers.{sequence_extension_of, sequence_of, picture_of, is_film, extension_of}
 use Rattle.m2v_law_shown.specs.Own.{IsPictureOf, FitsScan}
-use Rattle.m2v_law_shown.specs.m2v_law_tree.Trees.{sequence_by}
+use Rattle.m2v_law_shown.specs.m2v_enc_stream.Trees.{sequence_by}
 use Rattle.m2v_law_audit.proofs.CleanRemarks.{MayBe, none, both, held, looked, looked_where, picture_warned, PictureMayBe}
 
 -- ---- scans

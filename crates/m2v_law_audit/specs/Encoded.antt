@@ -12,7 +12,7 @@ use Rattle.m2v_audit.specs.m2v_strict.SequenceRules.{coded_luma_rule}
 use Rattle.m2v_audit.specs.declared.asked.Asked.{Asked}
 use Rattle.m2v_audit.specs.declared.records.Finding.{Finding}
 use Rattle.m2v_law_shown.specs.m2v_enc_stream.Streams.{Coded}
-use Rattle.m2v_law_shown.specs.m2v_law_tree.Trees.{sequence_by}
+use Rattle.m2v_law_shown.specs.m2v_enc_stream.Trees.{sequence_by}
 use Rattle.m2v_law_audit.specs.Sequences.{sequence_report}
 use Rattle.m2v_law_audit.specs.Parts.{Tells}
 use Rattle.m2v_law_audit.specs.Found.{findings_of}

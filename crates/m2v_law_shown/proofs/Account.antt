@@ -15,7 +15,7 @@ use Rattle.m2v_slice.specs.Headers.{begins_group}
 use Rattle.m2v_model.specs.Pictures.{Events}
 use Rattle.m2v_model.specs.Lawful.{all_numbered}
 use Rattle.m2v_model.specs.Buffering.{intervals}
-use Rattle.m2v_law_tree.specs.Trees.{groups_of, tree_of}
+use Rattle.m2v_enc_stream.specs.Trees.{groups_of, tree_of}
 use Rattle.m2v_enc_stream.proofs.Queues.{stream_some}
 use Rattle.m2v_law_shown.specs.Own.{own_sequence, FitsScan}
 use Rattle.m2v_law_shown.specs.Telling.{told_all}

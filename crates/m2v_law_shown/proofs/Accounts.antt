@@ -17,12 +17,12 @@ use Rattle.m2v_enc_stream.specs.Streams.{Progress, at_start, group_coded, groups
 use Rattle.m2v_model.specs.Units.{cut}
 use Rattle.m2v_model.specs.Pieces.{pieces}
 use Rattle.m2v_model.specs.Buffering.{sizes, before_picture, bits_of_piece, code_bits, codes, first_code}
-use Rattle.m2v_law_tree.specs.Trees.{groups_of}
+use Rattle.m2v_enc_stream.specs.Trees.{groups_of}
 use Rattle.m2v_slice.proofs.Firsts.{first_begins}
-use Rattle.m2v_law_tree.proofs.SliceUnits.{Spelled}
+use Rattle.m2v_enc_stream.proofs.SliceUnits.{Spelled}
 use Rattle.m2v_enc_stream.proofs.Queues.{coded_is, stream_some}
-use Rattle.m2v_law_tree.proofs.Follows.{stream_follows}
-use Rattle.m2v_law_tree.proofs.Groups.{MayFollow, AllFollow}
+use Rattle.m2v_enc_stream.proofs.Follows.{stream_follows}
+use Rattle.m2v_enc_stream.proofs.TreeGroups.{MayFollow, AllFollow}
 use Rattle.m2v_law_shown.specs.Texts.{in_group, in_groups, bits_at, code_at, picture_texts, picture_bits, picture_codes, code_places, Taken, ends_of}
 use Rattle.m2v_law_shown.proofs.Told.{groups_give}
 use Rattle.m2v_law_shown.proofs.StreamPieces.{bytes_at, packed_are, pieces_are}

@@ -11,12 +11,12 @@ use Rattle.m2v_model.specs.declared.state.Open.{Open}
 use Rattle.m2v_model.specs.declared.state.State.{State}
 use Rattle.m2v_model.specs.States.{at_first}
 use Rattle.m2v_model.specs.Streams.{sequence, after}
-use Rattle.m2v_law_tree.specs.Trees.{sequence_by}
-use Rattle.m2v_law_tree.specs.States.{state_with}
+use Rattle.m2v_enc_stream.specs.Trees.{sequence_by}
+use Rattle.m2v_enc_stream.specs.States.{state_with}
 use Rattle.m2v_slice.proofs.Firsts.{first_begins}
-use Rattle.m2v_law_tree.proofs.Turns.{IsCounted}
-use Rattle.m2v_law_tree.proofs.States.{first_sequence, next_sequence}
-use Rattle.m2v_law_tree.proofs.Groups.{start_is}
+use Rattle.m2v_enc_stream.proofs.Turns.{IsCounted}
+use Rattle.m2v_enc_stream.proofs.States.{first_sequence, next_sequence}
+use Rattle.m2v_enc_stream.proofs.TreeGroups.{start_is}
 use Rattle.m2v_law_shown.proofs.Heads.{Ready}
 
 -- a state behind groups, with so many anchors

@@ -12,10 +12,10 @@ use Rattle.m2v_slice.specs.Books.{Book, job_at, coded}
 use Rattle.m2v_slice.specs.Conditions.{IsBook}
 use Rattle.m2v_enc_stream.specs.Streams.{Progress, group_coded, groups_coded, picture_text, pictures_text, book_of}
 use Rattle.m2v_model.specs.Buffering.{bits_of_piece, code_bits, codes}
-use Rattle.m2v_law_tree.proofs.SliceUnits.{Spelled}
-use Rattle.m2v_law_tree.proofs.PictureChains.{picture_text_holds}
+use Rattle.m2v_enc_stream.proofs.SliceUnits.{Spelled}
+use Rattle.m2v_enc_stream.proofs.PictureChains.{picture_text_holds}
 use Rattle.m2v_enc_stream.proofs.Stands.{group_text_is}
-use Rattle.m2v_law_tree.proofs.Groups.{MayFollow, AllFollow, done_of, ledger_of}
+use Rattle.m2v_enc_stream.proofs.TreeGroups.{MayFollow, AllFollow, done_of, ledger_of}
 use Rattle.m2v_law_shown.specs.Texts.{in_group, in_groups, place_at}
 use Rattle.m2v_law_shown.proofs.Runs.{range_more}
 use Rattle.m2v_law_shown.proofs.StreamPieces.{bytes_at}

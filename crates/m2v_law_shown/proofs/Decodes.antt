@@ -5,11 +5,11 @@ use Rattle.m2v_set.specs.Rules.{Passes}
 use Rattle.m2v_enc_stream.specs.Streams.{Coded, Recon}
 use Rattle.m2v_model.specs.Decoding.{Decodes}
 use Rattle.m2v_model.proofs.Unique.{exactly_one}
-use Rattle.m2v_law_tree.proofs.CalmSlices.{slice_calm}
-use Rattle.m2v_law_tree.proofs.Slices.{slice_stands, none_large}
-use Rattle.m2v_law_tree.specs.Trees.{tree_of}
-use Rattle.m2v_law_tree.proofs.SliceUnits.{Spelled}
-use Rattle.m2v_law_tree.proofs.Streams.{stream_stands}
+use Rattle.m2v_enc_stream.proofs.CalmSlices.{slice_calm}
+use Rattle.m2v_enc_stream.proofs.Slices.{slice_stands, none_large}
+use Rattle.m2v_enc_stream.specs.Trees.{tree_of}
+use Rattle.m2v_enc_stream.proofs.SliceUnits.{Spelled}
+use Rattle.m2v_enc_stream.proofs.TreeStreams.{stream_stands}
 use Rattle.m2v_law_shown.specs.Laws.{DecodesTo}
 use Rattle.m2v_law_shown.proofs.Streams.{shown_is}
 

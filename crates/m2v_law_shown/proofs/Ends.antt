@@ -8,7 +8,7 @@ use Rattle.m2v_set.specs.declared.settings.Settings.{Settings}
 use Rattle.m2v_order.specs.Groups.{Group}
 use Rattle.m2v_enc_stream.specs.Streams.{Progress, group_coded}
 use Rattle.m2v_model.specs.Buffering.{sizes}
-use Rattle.m2v_law_tree.proofs.Groups.{MayFollow, AllFollow}
+use Rattle.m2v_enc_stream.proofs.TreeGroups.{MayFollow, AllFollow}
 use Rattle.m2v_law_shown.specs.Texts.{value_at, in_group, in_groups, bits_at, groups_taken}
 use Rattle.m2v_law_shown.proofs.Runs.{range_more}
 

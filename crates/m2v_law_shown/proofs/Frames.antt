@@ -25,7 +25,7 @@ use Rattle.m2v_slice.proofs.Sound.{plan_is_good}
 use Rattle.m2v_enc_stream.specs.Streams.{picture_with, frame_of}
 use Rattle.m2v_model.specs.Samples.{References}
 use Rattle.m2v_model.specs.Painting.{lines_in}
-use Rattle.m2v_law_tree.specs.Trees.{task_at}
+use Rattle.m2v_enc_stream.specs.Trees.{task_at}
 use Rattle.m2v_law_shown.specs.Views.{AreReferencesOf, HasRowOf}
 use Rattle.m2v_law_shown.specs.Rows.{rows_in, IsRowOf, samples_of}
 use Rattle.m2v_law_shown.proofs.Only.{lines_by, only_one}

@@ -13,9 +13,9 @@ use Rattle.m2v_model.specs.Buffering.{account_by, account_in, unsafe_in}
 use Rattle.m2v_enc_stream.specs.Sent.{SentPicture, Sent}
 use Rattle.m2v_enc_stream.proofs.Workers.{coded_same, recon_same}
 use Rattle.m2v_enc_stream.proofs.Begins.{stream_begins}
-use Rattle.m2v_law_tree.specs.Trees.{groups_of, tree_of}
-use Rattle.m2v_law_tree.proofs.Follows.{stream_follows}
-use Rattle.m2v_law_tree.proofs.Streams.{stream_stands}
+use Rattle.m2v_enc_stream.specs.Trees.{groups_of, tree_of}
+use Rattle.m2v_enc_stream.proofs.Follows.{stream_follows}
+use Rattle.m2v_enc_stream.proofs.TreeStreams.{stream_stands}
 use Rattle.m2v_law_shown.proofs.Decodes.{spelled, decodes_to}
 use Rattle.m2v_law_shown.specs.Told.{number_delay, numbers_of}
 use Rattle.m2v_law_shown.proofs.Streams.{stream_told}

@@ -18,13 +18,13 @@ use Rattle.m2v_model.specs.States.{opened}
 use Rattle.m2v_model.specs.Samples.{References}
 use Rattle.m2v_model.specs.Streams.{Part, sequence, group, picture, after}
 use Rattle.m2v_model.specs.Pictures.{Store, Events, references_by, references_of, fresh, sequence_header, group_header, closed, picture_ended, picture_begun}
-use Rattle.m2v_law_tree.specs.Trees.{sequence_by, header_parts, task_at, slice_parts, picture_parts}
-use Rattle.m2v_law_tree.specs.States.{open_at, waiting_behind, anchors_behind}
+use Rattle.m2v_enc_stream.specs.Trees.{sequence_by, header_parts, task_at, slice_parts, picture_parts}
+use Rattle.m2v_enc_stream.specs.States.{open_at, waiting_behind, anchors_behind}
 use Rattle.m2v_law_shown.specs.Rows.{rows_in, fresh_of}
 use Rattle.m2v_law_shown.specs.Telling.{headers}
 use Rattle.m2v_law_shown.specs.Runs.{Goes, pending, settled, store_with}
-use Rattle.m2v_law_tree.proofs.Turns.{IsCounted}
-use Rattle.m2v_law_tree.proofs.States.{dims_are, state_before, state_at, references_at, read_is, next_group, header_after}
+use Rattle.m2v_enc_stream.proofs.Turns.{IsCounted}
+use Rattle.m2v_enc_stream.proofs.States.{dims_are, state_before, state_at, references_at, read_is, next_group, header_after}
 use Rattle.m2v_law_shown.proofs.Runs.{goes_on, goes_one, slices_go}
 
 -- a state in which picture p of a group can follow

@@ -5,8 +5,8 @@ use Rattle.m2v_set.specs.Rules.{Passes}
 use Rattle.m2v_enc_stream.specs.Streams.{Coded}
 use Rattle.m2v_model.specs.Decoding.{low_delay_of}
 use Rattle.m2v_model.specs.Lawful.{breaches, breaches_of, Lawful}
-use Rattle.m2v_law_tree.specs.Trees.{groups_of, tree_of}
-use Rattle.m2v_law_tree.proofs.Streams.{stream_stands}
+use Rattle.m2v_enc_stream.specs.Trees.{groups_of, tree_of}
+use Rattle.m2v_enc_stream.proofs.TreeStreams.{stream_stands}
 use Rattle.m2v_law_shown.proofs.Decodes.{spelled}
 use Rattle.m2v_law_shown.specs.Telling.{told_all}
 use Rattle.m2v_law_shown.proofs.LawfulNumbers.{told_none}

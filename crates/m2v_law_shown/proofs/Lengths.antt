@@ -17,10 +17,10 @@ use Rattle.m2v_model.proofs.CutLaws.{are_before, cut_units}
 use Rattle.m2v_model.specs.Texts.{ended, unit_bytes}
 use Rattle.m2v_enc_stream.proofs.Pictures.{picture_length}
 use Rattle.m2v_model.proofs.Ends.{end_bytes, end_packs}
-use Rattle.m2v_law_tree.proofs.Zeros.{padded_cuts}
-use Rattle.m2v_law_tree.proofs.SliceUnits.{Spelled}
-use Rattle.m2v_law_tree.proofs.Pictures.{sequence_bytes, extension_bytes, group_bytes, picture_bytes, coding_bytes}
-use Rattle.m2v_law_tree.proofs.PictureChains.{header_bytes, slices_bytes, picture_units_of, picture_text_holds}
+use Rattle.m2v_enc_stream.proofs.Zeros.{padded_cuts}
+use Rattle.m2v_enc_stream.proofs.SliceUnits.{Spelled}
+use Rattle.m2v_enc_stream.proofs.TreePictures.{sequence_bytes, extension_bytes, group_bytes, picture_bytes, coding_bytes}
+use Rattle.m2v_enc_stream.proofs.PictureChains.{header_bytes, slices_bytes, picture_units_of, picture_text_holds}
 use Rattle.m2v_law_shown.specs.Texts.{bits_at}
 
 -- ---- bytes of texts

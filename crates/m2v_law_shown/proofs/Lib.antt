@@ -47,5 +47,4 @@ pub mod ToldDelays
 pub mod Orders
 pub mod Headline
 pub use Rattle.m2v_enc_stream.proofs as m2v_enc_stream
-pub use Rattle.m2v_law_tree.proofs as m2v_law_tree
 pub use Rattle.m2v_slice.proofs as m2v_slice

@@ -17,7 +17,7 @@ use Rattle.m2v_order.proofs.Intra.{IsGrouped}
 use Rattle.m2v_order.proofs.Queues.{grouped, true_false, due_is, turn_is, sound_next}
 use Rattle.m2v_order.proofs.Handed.{frames_all, coding_all, sound_all}
 use Rattle.m2v_enc_stream.specs.Streams.{Progress, at_start, group_coded, groups_coded, groups_from, coded_all, Recon}
-use Rattle.m2v_law_tree.specs.Trees.{groups_of}
+use Rattle.m2v_enc_stream.specs.Trees.{groups_of}
 use Rattle.m2v_enc_stream.proofs.Queues.{from_due, from_none}
 
 -- ---- the calls that push all frames, end, and ask for groups

@@ -33,7 +33,7 @@ use Rattle.m2v_model.specs.Slices.{slice_start}
 use Rattle.m2v_model.specs.Samples.{References, put_in_frame, all_painted}
 use Rattle.m2v_model.specs.Painting.{IsPainted, lines_in, LiesIn, skipped_sample, IsPartOf, ArePartsOf, after_macroblocks}
 use Rattle.m2v_model.proofs.Painting.{all_more}
-use Rattle.m2v_law_tree.specs.Slices.{setup_of, slice_read}
+use Rattle.m2v_enc_stream.specs.Slices.{setup_of, slice_read}
 use Rattle.m2v_law_shown.specs.Views.{AreReferencesOf, HasRowOf}
 use Rattle.m2v_law_shown.proofs.Reading.{predicted_same, block_same}
 use Rattle.m2v_law_shown.proofs.Squares.{so_far, decided, lies_at}

@@ -16,10 +16,10 @@ use Rattle.m2v_enc_stream.specs.Streams.{zeros_of, delay_at}
 use Rattle.m2v_model.specs.Units.{Units}
 use Rattle.m2v_model.specs.Pieces.{begins_piece, is_end}
 use Rattle.m2v_slice.proofs.Firsts.{first_begins}
-use Rattle.m2v_law_tree.proofs.Zeros.{padded}
-use Rattle.m2v_law_tree.proofs.SliceUnits.{slice_bytes}
-use Rattle.m2v_law_tree.proofs.Pictures.{sequence_bytes, extension_bytes, group_bytes, picture_bytes, coding_bytes}
-use Rattle.m2v_law_tree.proofs.PictureChains.{header_bytes, slices_bytes, picture_units_of, some_rows}
+use Rattle.m2v_enc_stream.proofs.Zeros.{padded}
+use Rattle.m2v_enc_stream.proofs.SliceUnits.{slice_bytes}
+use Rattle.m2v_enc_stream.proofs.TreePictures.{sequence_bytes, extension_bytes, group_bytes, picture_bytes, coding_bytes}
+use Rattle.m2v_enc_stream.proofs.PictureChains.{header_bytes, slices_bytes, picture_units_of, some_rows}
 use Rattle.m2v_law_shown.proofs.Groupings.{IsInner, IsPiece, IsFirst, plain_piece, group_piece, group_first}
 
 -- ---- slices

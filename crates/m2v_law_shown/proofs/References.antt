@@ -27,7 +27,7 @@ use Rattle.m2v_model.specs.Samples.{References}
 use Rattle.m2v_model.specs.Pictures.{Store, second_field_of, references_by}
 use Rattle.m2v_model.specs.Pictures as pictures
 use Rattle.m2v_model.specs.Painting.{HasPart, IsPainted}
-use Rattle.m2v_law_tree.specs.Trees.{task_at}
+use Rattle.m2v_enc_stream.specs.Trees.{task_at}
 use Rattle.m2v_law_shown.specs.Views.{AgreeInside, AreReferencesOf}
 use Rattle.m2v_law_shown.specs.Rows.{samples_of}
 use Rattle.m2v_law_shown.specs.Stores.{newer_behind, older_behind, HoldsBefore}

@@ -13,7 +13,7 @@ use Rattle.m2v_model.specs.Slices.{slice_start}
 use Rattle.m2v_model.specs.Samples.{References}
 use Rattle.m2v_model.specs.Painting.{IsPainted, frame_by, lines_in}
 use Rattle.m2v_model.proofs.Painting.{part_none, blank_painted, frame_all, frame_fields, all_kept}
-use Rattle.m2v_law_tree.specs.Slices.{setup_of, slice_read}
+use Rattle.m2v_enc_stream.specs.Slices.{setup_of, slice_read}
 use Rattle.m2v_law_shown.specs.Views.{slice_in}
 use Rattle.m2v_law_shown.specs.Rows.{rows_in, IsRowOf}
 use Rattle.m2v_law_shown.proofs.Painted.{row_painted}

@@ -16,18 +16,18 @@ use Rattle.m2v_model.specs.Slices.{slice_start}
 use Rattle.m2v_model.specs.Samples.{References, put_in_frame, all_painted}
 use Rattle.m2v_model.specs.Streams.{Part, slice, after}
 use Rattle.m2v_model.specs.Pictures.{Store, Events, slice_painted, told_by, store_after, events_from, store_from}
-use Rattle.m2v_law_tree.specs.Slices.{slice_read}
-use Rattle.m2v_law_tree.specs.Trees.{sequence_by, task_at, slice_parts, state_behind}
-use Rattle.m2v_law_tree.specs.States.{open_at}
+use Rattle.m2v_enc_stream.specs.Slices.{slice_read}
+use Rattle.m2v_enc_stream.specs.Trees.{sequence_by, task_at, slice_parts, state_behind}
+use Rattle.m2v_enc_stream.specs.States.{open_at}
 use Rattle.m2v_law_shown.specs.Views.{slice_in}
 use Rattle.m2v_law_shown.specs.Rows.{rows_in}
 use Rattle.m2v_law_shown.specs.Telling.{told, told_all, IsMade}
 use Rattle.m2v_law_shown.specs.Told.{Made}
 use Rattle.m2v_law_shown.specs.Runs.{Goes, Tells, IsKept, pending, store_with}
-use Rattle.m2v_law_tree.proofs.States.{state_at, references_at, covered_is, slice_after, setup_at}
-use Rattle.m2v_law_tree.proofs.Streams.{state_on}
+use Rattle.m2v_enc_stream.proofs.States.{state_at, references_at, covered_is, slice_after, setup_at}
+use Rattle.m2v_enc_stream.proofs.TreeStreams.{state_on}
 use Rattle.m2v_law_shown.proofs.Frames.{slice_is_one}
-use Rattle.m2v_law_tree.proofs.Slices.{none_large}
+use Rattle.m2v_enc_stream.proofs.Slices.{none_large}
 
 -- ---- one run behind another
 

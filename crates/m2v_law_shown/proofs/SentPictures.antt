@@ -11,7 +11,7 @@ use Rattle.m2v_slice.specs.Conditions.{IsBook}
 use Rattle.m2v_enc_stream.specs.Streams.{Progress, group_coded, book_of}
 use Rattle.m2v_enc_stream.specs.Removals.{coded_of, ledger_of}
 use Rattle.m2v_enc_stream.specs.Sent.{SentPicture, place_at, sent_at, group_sent, groups_sent}
-use Rattle.m2v_law_tree.proofs.Groups.{MayFollow, AllFollow}
+use Rattle.m2v_enc_stream.proofs.TreeGroups.{MayFollow, AllFollow}
 use Rattle.m2v_law_shown.specs.Texts.{in_group, in_groups, bits_at, code_at}
 use Rattle.m2v_law_shown.proofs.Ends.{with_end, end_append, groups_some}
 use Rattle.m2v_law_shown.proofs.Runs.{range_more}

@@ -9,7 +9,7 @@ use Rattle.m2v_order.specs.Coding.{structures}
 use Rattle.m2v_order.specs.Whole.{fields_of}
 use Rattle.m2v_slice.specs.Books.{Book, no_job}
 use Rattle.m2v_slice.specs.Conditions.{IsBook}
-use Rattle.m2v_law_tree.proofs.Turns.{same_scan}
+use Rattle.m2v_enc_stream.proofs.Turns.{same_scan}
 
 -- the picture before, or none
 abbrev pub previous : List PictureJob → ℕ → PictureJob

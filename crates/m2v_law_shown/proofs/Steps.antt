@@ -29,8 +29,8 @@ use Rattle.m2v_model.specs.Streams.{Part}
 use Rattle.m2v_model.specs.Pictures.{Store, Picture, Pictures, Events, no_references, coded_picture, picture_ended, is_ending, typed, frames_in}
 use Rattle.m2v_model.specs.Pictures as pictures
 use Rattle.m2v_model.specs.Painting.{IsPainted}
-use Rattle.m2v_law_tree.specs.Trees.{task_at, picture_parts, pictures_parts}
-use Rattle.m2v_law_tree.specs.States.{open_at, waiting_behind, anchors_behind}
+use Rattle.m2v_enc_stream.specs.Trees.{task_at, picture_parts, pictures_parts}
+use Rattle.m2v_enc_stream.specs.States.{open_at, waiting_behind, anchors_behind}
 use Rattle.m2v_law_shown.specs.Views.{AreReferencesOf}
 use Rattle.m2v_law_shown.specs.Rows.{rows_in, fresh_of, samples_of}
 use Rattle.m2v_law_shown.specs.Stores.{frame_in, newer_behind, older_behind, FieldWaits}
@@ -43,8 +43,8 @@ use Rattle.m2v_law_shown.proofs.Frames.{frame_rebuilt, is_row, half_rows}
 use Rattle.m2v_law_shown.proofs.Rows.{field_painted, fields_painted}
 use Rattle.m2v_law_shown.proofs.Views.{newer_kept, older_kept, newer_ended, older_ended, ends_is, b_ends_none, first_ends_none}
 use Rattle.m2v_law_shown.proofs.References.{references_are}
-use Rattle.m2v_law_tree.proofs.Turns.{IsCounted}
-use Rattle.m2v_law_tree.proofs.States.{state_at, references_at, next_sequence}
+use Rattle.m2v_enc_stream.proofs.Turns.{IsCounted}
+use Rattle.m2v_enc_stream.proofs.States.{state_at, references_at, next_sequence}
 use Rattle.m2v_law_shown.proofs.Runs.{tells_on, tells_none, range_more}
 use Rattle.m2v_law_shown.proofs.Heads.{Ready, BeginsWith, refs_at, picture_goes}
 

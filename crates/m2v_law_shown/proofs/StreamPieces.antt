@@ -13,13 +13,13 @@ use Rattle.m2v_model.specs.Units.{Units, Cuts, joined}
 use Rattle.m2v_model.specs.Pieces.{grouped, is_end, pieces}
 use Rattle.m2v_model.proofs.CutLaws.{cuts_is}
 use Rattle.m2v_model.proofs.Ends.{end_bytes, end_packs}
-use Rattle.m2v_law_tree.specs.Trees.{groups_of}
-use Rattle.m2v_law_tree.proofs.Zeros.{padded_cuts}
-use Rattle.m2v_law_tree.proofs.SliceUnits.{Spelled}
-use Rattle.m2v_law_tree.proofs.PictureChains.{picture_units_of, picture_text_holds}
+use Rattle.m2v_enc_stream.specs.Trees.{groups_of}
+use Rattle.m2v_enc_stream.proofs.Zeros.{padded_cuts}
+use Rattle.m2v_enc_stream.proofs.SliceUnits.{Spelled}
+use Rattle.m2v_enc_stream.proofs.PictureChains.{picture_units_of, picture_text_holds}
 use Rattle.m2v_enc_stream.proofs.Queues.{coded_is, stream_some}
-use Rattle.m2v_law_tree.proofs.Follows.{stream_follows}
-use Rattle.m2v_law_tree.proofs.Groups.{MayFollow, AllFollow, done_of, ledger_of, groups_units, groups_add}
+use Rattle.m2v_enc_stream.proofs.Follows.{stream_follows}
+use Rattle.m2v_enc_stream.proofs.TreeGroups.{MayFollow, AllFollow, done_of, ledger_of, groups_units, groups_add}
 use Rattle.m2v_law_shown.specs.Texts.{in_group, in_groups, picture_texts}
 use Rattle.m2v_law_shown.proofs.Groupings.{IsPiece, Starts, starts_append, pieces_all}
 use Rattle.m2v_law_shown.proofs.PictureUnits.{picture_piece, picture_first}

@@ -25,9 +25,9 @@ use Rattle.m2v_model.specs.Pictures.{Store, Picture, no_frames, coded_picture, p
 use Rattle.m2v_model.specs.Decoding as decoding
 use Rattle.m2v_model.specs.Decoding.{is_dropped, low_delay_of}
 use Rattle.m2v_model.proofs.EventLaws.{pictures_in-append}
-use Rattle.m2v_law_tree.specs.Trees.{sequence_by, group_parts, groups_parts, groups_of, tree_of}
-use Rattle.m2v_law_tree.specs.States.{state_with, waiting_behind, anchors_behind}
-use Rattle.m2v_law_tree.proofs.Turns.{none_behind, anchors_end}
+use Rattle.m2v_enc_stream.specs.Trees.{sequence_by, group_parts, groups_parts, groups_of, tree_of}
+use Rattle.m2v_enc_stream.specs.States.{state_with, waiting_behind, anchors_behind}
+use Rattle.m2v_enc_stream.proofs.Turns.{none_behind, anchors_end}
 use Rattle.m2v_enc_stream.proofs.Queues.{stream_some}
 use Rattle.m2v_law_shown.specs.Showing.{ShowAll}
 use Rattle.m2v_law_shown.specs.Stores.{frame_in}

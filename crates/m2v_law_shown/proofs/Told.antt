@@ -12,8 +12,8 @@ use Rattle.m2v_slice.specs.Books.{Book, CodedPicture, coded}
 use Rattle.m2v_slice.specs.Conditions.{IsBook}
 use Rattle.m2v_enc_stream.specs.Streams.{Progress, book_of, group_coded, pictures_text}
 use Rattle.m2v_model.specs.Units.{Units}
-use Rattle.m2v_law_tree.proofs.PictureChains.{picture_units_of}
-use Rattle.m2v_law_tree.proofs.Groups.{MayFollow, AllFollow, done_of, ledger_of, pictures_units, group_units_of, groups_units}
+use Rattle.m2v_enc_stream.proofs.PictureChains.{picture_units_of}
+use Rattle.m2v_enc_stream.proofs.TreeGroups.{MayFollow, AllFollow, done_of, ledger_of, pictures_units, group_units_of, groups_units}
 use Rattle.m2v_law_shown.specs.Texts.{in_group, in_groups}
 use Rattle.m2v_law_shown.proofs.Groupings.{all_of, all_of_append}
 use Rattle.m2v_law_shown.proofs.Runs.{range_more}

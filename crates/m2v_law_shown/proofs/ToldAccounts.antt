@@ -21,9 +21,9 @@ use Rattle.m2v_enc_stream.proofs.Streams.{stream_bits}
 use Rattle.m2v_enc_stream.proofs.Groups.{all_coded}
 use Rattle.m2v_enc_stream.specs.Removals.{Seen}
 use Rattle.m2v_rate.proofs.Streams.{stream_safe}
-use Rattle.m2v_law_tree.specs.Trees.{sequence_by, groups_of}
-use Rattle.m2v_law_tree.proofs.SliceUnits.{Spelled}
-use Rattle.m2v_law_tree.proofs.Follows.{stream_follows}
+use Rattle.m2v_enc_stream.specs.Trees.{sequence_by, groups_of}
+use Rattle.m2v_enc_stream.proofs.SliceUnits.{Spelled}
+use Rattle.m2v_enc_stream.proofs.Follows.{stream_follows}
 use Rattle.m2v_law_shown.specs.Accounts.{AreTold, account_told}
 use Rattle.m2v_law_shown.proofs.Accounts.{taken_is, total_is, first_is}
 use Rattle.m2v_law_shown.proofs.Ends.{groups_end}

@@ -13,9 +13,9 @@ use Rattle.m2v_model.specs.Lawful.{Numbered}
 use Rattle.m2v_model.specs.Buffering.{StreamAccount, sizes, bits_of_piece, code_bits, codes, exact_delay, exact_delays, exact_delays_from, other_delays}
 use Rattle.m2v_enc_stream.specs.Sent.{SentPicture, Sent, removal_of, AreExact}
 use Rattle.m2v_enc_stream.proofs.Exact.{stream_exact}
-use Rattle.m2v_law_tree.specs.Trees.{groups_of}
-use Rattle.m2v_law_tree.proofs.SliceUnits.{Spelled}
-use Rattle.m2v_law_tree.proofs.Follows.{stream_follows}
+use Rattle.m2v_enc_stream.specs.Trees.{groups_of}
+use Rattle.m2v_enc_stream.proofs.SliceUnits.{Spelled}
+use Rattle.m2v_enc_stream.proofs.Follows.{stream_follows}
 use Rattle.m2v_law_shown.specs.Accounts.{AreTold, account_told, delay_in}
 use Rattle.m2v_law_shown.proofs.Accounts.{codes_are}
 use Rattle.m2v_law_shown.proofs.SentPictures.{bits_of_sent, codes_of_sent, groups_begin}

@@ -9,9 +9,9 @@ use Rattle.m2v_order.specs.Groups.{Group}
 use Rattle.m2v_rate.specs.Plans.{Entries}
 use Rattle.m2v_slice.specs.Books.{Book, CodedPicture}
 use Rattle.m2v_enc_stream.specs.Streams.{Progress, at_start, group_coded, groups_coded, coded_all, picture_text, pictures_text, book_of}
-use Rattle.m2v_law_tree.specs.Trees.{groups_of}
+use Rattle.m2v_enc_stream.specs.Trees.{groups_of}
 use Rattle.m2v_enc_stream.proofs.Stands.{group_text_is}
-use Rattle.m2v_law_tree.proofs.Groups.{done_of, ledger_of}
+use Rattle.m2v_enc_stream.proofs.TreeGroups.{done_of, ledger_of}
 use Rattle.m2v_law_shown.specs.Texts.{in_group, in_groups, picture_texts}
 use Rattle.m2v_law_shown.proofs.Runs.{range_more}
 use Rattle.m2v_enc_stream.proofs.Queues.{coded_is}

@@ -10,7 +10,7 @@ use Rattle.m2v_enc_stream.specs.Streams.{Coded, coded_all}
 use Rattle.m2v_model.specs.Pieces.{pieces}
 use Rattle.m2v_model.specs.Lawful.{Numbered}
 use Rattle.m2v_model.specs.Buffering.{StreamAccount, intervals, account_by}
-use Rattle.m2v_law_tree.specs.Trees.{sequence_by, groups_of}
+use Rattle.m2v_enc_stream.specs.Trees.{sequence_by, groups_of}
 
 -- the vbv_delay in the header of a picture
 abbrev pub delay_in : Numbered → ℕ

@@ -4,7 +4,7 @@ use Rattle.m2v_set.specs.declared.settings.Settings.{Settings}
 use Rattle.m2v_order.specs.Calls.{jobs_in, picture_of}
 use Rattle.m2v_order.specs.Coding.{Coding}
 use Rattle.m2v_enc_stream.specs.Streams.{Coded, Recon}
-use Rattle.m2v_law_tree.specs.Trees.{groups_of}
+use Rattle.m2v_enc_stream.specs.Trees.{groups_of}
 use Rattle.m2v_model.specs.Lawful.{Lawful}
 use Rattle.m2v_model.specs.Buffering.{Safe}
 use Rattle.m2v_law_shown.specs.Laws.{DecodesTo}

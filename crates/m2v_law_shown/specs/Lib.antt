@@ -12,5 +12,4 @@ pub mod Accounts
 pub mod Texts
 pub mod Headline
 pub use Rattle.m2v_enc_stream.specs as m2v_enc_stream
-pub use Rattle.m2v_law_tree.specs as m2v_law_tree
 pub use Rattle.m2v_slice.specs as m2v_slice

@@ -8,7 +8,7 @@ use Rattle.m2v_model.specs.declared.state.State.{State}
 use Rattle.m2v_model.specs.Samples.{References}
 use Rattle.m2v_model.specs.Streams.{Part}
 use Rattle.m2v_model.specs.Pictures.{Store, Picture, Events, closed, picture_ended, events_from, store_from, frames_in}
-use Rattle.m2v_law_tree.specs.Trees.{state_behind}
+use Rattle.m2v_enc_stream.specs.Trees.{state_behind}
 use Rattle.m2v_law_shown.specs.Stores.{frame_in}
 use Rattle.m2v_law_shown.specs.Telling.{told_all, IsMade}
 use Rattle.m2v_law_shown.specs.Told.{Made, picture_in}

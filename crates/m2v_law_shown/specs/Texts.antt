@@ -8,7 +8,7 @@ use Rattle.m2v_rate.specs.Plans.{Entries}
 use Rattle.m2v_slice.specs.Headers.{bits_to_code}
 use Rattle.m2v_slice.specs.Books.{Book, CodedPicture, coded, job_at, size_of, ledger_behind}
 use Rattle.m2v_enc_stream.specs.Streams.{Progress, at_start, book_of, zeros_of, picture_text, pictures_text, group_coded}
-use Rattle.m2v_law_tree.specs.Trees.{groups_of}
+use Rattle.m2v_enc_stream.specs.Trees.{groups_of}
 
 -- ---- one value of each picture
 

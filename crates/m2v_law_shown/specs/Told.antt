@@ -6,7 +6,7 @@ use Rattle.m2v_order.specs.Calls.{jobs_in}
 use Rattle.m2v_model.specs.Pictures.{Picture}
 use Rattle.m2v_model.specs.Decoding.{events}
 use Rattle.m2v_model.specs.Lawful.{Numbered, all_numbered}
-use Rattle.m2v_law_tree.specs.Trees.{groups_of, tree_of}
+use Rattle.m2v_enc_stream.specs.Trees.{groups_of, tree_of}
 use Rattle.m2v_law_shown.specs.Own.{own_sequence}
 use Rattle.m2v_law_shown.specs.Telling.{told_all, IsMade}
 use Rattle.m2v_enc_stream.specs.Sent.{SentPicture, Sent}

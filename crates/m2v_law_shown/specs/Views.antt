@@ -11,7 +11,7 @@ use Rattle.m2v_slice.specs.Slices.{SliceTask, slice_of}
 use Rattle.m2v_model.specs.Slices.{slice_start}
 use Rattle.m2v_model.specs.Samples.{References, put_in_frame, all_painted}
 use Rattle.m2v_model.specs.Painting.{lines_in}
-use Rattle.m2v_law_tree.specs.Slices.{setup_of, slice_read}
+use Rattle.m2v_enc_stream.specs.Slices.{setup_of, slice_read}
 
 -- two views show the same of every line of a frame that a picture of this structure reads: of frames and fields, or of
 -- fields alone

@@ -18,7 +18,7 @@ ghost use Rattle.m2v_enc_stream.specs.Streams.{frame_of, Coded, Recon};
 ghost use Rattle.m2v_model.specs.Samples.{References};
 ghost use Rattle.m2v_model.specs.Painting.{IsPainted, lines_in};
 ghost use Rattle.m2v_model.specs.Decoding.{frames_of as shown_by};
-ghost use Rattle.m2v_law_tree.specs.Trees.{task_at, tree_of, groups_of};
+ghost use Rattle.m2v_enc_stream.specs.Trees.{task_at, tree_of, groups_of};
 ghost use Rattle.m2v_law_shown.specs.Rows.{rows_in, fresh_of};
 ghost use Rattle.m2v_model.specs.Pictures.{Store, references_by, Picture, Events};
 ghost use Rattle.m2v_law_shown.specs.Stores.{HoldsBefore};

@@ -11,5 +11,5 @@ pub use laws::{
     law_display_order, law_encoded_decodes, law_encoded_lawful, law_frame_painted,
     law_lawful_groups, law_lawful_headers, law_references, law_shown, law_slice_painted, law_told,
 };
-pub use m2v_law_tree as law_tree;
+pub use m2v_enc_stream as enc_stream;
 pub use stream_laws::{law_account, law_headline, law_pieces};

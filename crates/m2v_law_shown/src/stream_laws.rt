@@ -16,7 +16,7 @@ ghost use Rattle.m2v_law_shown.specs.Texts.{code_places, Taken, ends_of};
 ghost use Rattle.m2v_law_shown.specs.Accounts.{AreTold, account_told, delay_in};
 ghost use Rattle.m2v_law_shown.specs.Headline.{Headline};
 
-use m2v_law_tree::{law_slice_calm, law_slice_reads};
+use m2v_enc_stream::{law_slice_calm, law_slice_reads};
 
 /// The pieces of the stream of raw frames are its pictures in coding order, each with its headers,
 /// its slices and the zero bytes behind them, and then the sequence end code.

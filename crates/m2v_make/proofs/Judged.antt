@@ -12,8 +12,8 @@ use Rattle.m2v_check.specs.m2v_model.Lawful.{Numbered, is_variable}
 use Rattle.m2v_check.specs.m2v_model.Buffering.{figures_in}
 use Rattle.m2v_encode.specs.m2v_enc_stream.Sent.{SentPicture, Sent, AreExact}
 use Rattle.m2v_encode.proofs.m2v_enc_stream.Exact.{stream_exact}
-use Rattle.m2v_encode.specs.m2v_law_tree.Trees.{tree_of}
-use Rattle.m2v_encode.proofs.m2v_law_tree.Streams.{stream_stands}
+use Rattle.m2v_encode.specs.m2v_enc_stream.Trees.{tree_of}
+use Rattle.m2v_encode.proofs.m2v_enc_stream.TreeStreams.{stream_stands}
 use Rattle.m2v_encode.proofs.m2v_law_shown.Decodes.{spelled}
 use Rattle.m2v_encode.specs.m2v_law_shown.Told.{number_delay, numbers_of}
 use Rattle.m2v_encode.proofs.m2v_law_shown.Account.{tells_numbers}

@@ -14,7 +14,7 @@ use Rattle.m2v_encode.specs.declared.answer.EncodeError.TheVariants as encoding
 use Rattle.m2v_encode.specs.Answers.{AreWhole, Stops, unshown}
 use Rattle.m2v_encode.specs.m2v_enc_stream.Streams.{Recon}
 use Rattle.m2v_encode.specs.m2v_law_shown.Laws.{DecodesTo}
-use Rattle.m2v_encode.specs.m2v_law_tree.Trees.{groups_of}
+use Rattle.m2v_encode.specs.m2v_enc_stream.Trees.{groups_of}
 use Rattle.m2v_encode.proofs.m2v_law_shown.Headline.{headline}
 use Rattle.m2v_check.specs.m2v_model.Pieces.{most_input}
 use Rattle.m2v_check.specs.m2v_model.Lawful.{Lawful as IsRuled}

@@ -14,8 +14,8 @@ use Rattle.m2v_order.specs.Groups.{Group}
 use Rattle.m2v_order.specs.Calls.{jobs_in}
 use Rattle.m2v_encode.specs.m2v_enc_stream.Streams.{Progress, Coded, coded_all, at_start, group_coded, groups_coded}
 use Rattle.m2v_encode.specs.m2v_enc_stream.Sent.{SentPicture, Sent, removal_of}
-use Rattle.m2v_encode.specs.m2v_law_tree.Trees.{groups_of}
-use Rattle.m2v_encode.proofs.m2v_law_tree.Follows.{stream_follows}
+use Rattle.m2v_encode.specs.m2v_enc_stream.Trees.{groups_of}
+use Rattle.m2v_encode.proofs.m2v_enc_stream.Follows.{stream_follows}
 use Rattle.m2v_encode.proofs.m2v_law_shown.Decodes.{spelled}
 use Rattle.m2v_encode.proofs.m2v_law_shown.Accounts.{bits_are, total_is, pictures_counted}
 use Rattle.m2v_encode.proofs.m2v_law_shown.Ends.{with_end}

@@ -1,4 +1,4 @@
-use Rattle.m2v_law_tree.proofs.SliceUnits.{Spelled}
+use Rattle.m2v_enc_stream.proofs.SliceUnits.{Spelled}
 use Rattle.m2v_law_shown.proofs.ToldAccounts.{all_safe}
 use Rattle.m2v_law_shown.proofs.ToldDelays.{all_exact}
 use Rattle.m2v_law_shown.proofs.stream_laws.law_account.Goals as goal

@@ -1,4 +1,4 @@
-use Rattle.m2v_law_tree.proofs.SliceUnits.{Spelled}
+use Rattle.m2v_enc_stream.proofs.SliceUnits.{Spelled}
 use Rattle.m2v_law_shown.proofs.StreamPieces.{pieces_are}
 use Rattle.m2v_law_shown.proofs.Accounts.{pictures_counted, lengths_are, bits_are, taken_is, total_is, codes_are, first_is, places_are, sums_are}
 use Rattle.m2v_law_shown.proofs.Wholes.{whole_is}

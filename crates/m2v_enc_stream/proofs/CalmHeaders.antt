@@ -16,7 +16,7 @@ use Rattle.m2v_slice.proofs.TextLengths.{sequence_extension_length, picture_leng
 use Rattle.m2v_model.specs.Texts.{Calm, ended, IsCalm}
 use Rattle.m2v_model.proofs.Calm.{calm_then, calm_any, calm_one, some_one, calm_end, calm_whole}
 use Rattle.m2v_model.proofs.Headers.{plain}
-use Rattle.m2v_law_tree.proofs.Headers.{plain_is, size_bounds, by_kind}
+use Rattle.m2v_enc_stream.proofs.Headers.{plain_is, size_bounds, by_kind}
 
 -- ---- sequences
 

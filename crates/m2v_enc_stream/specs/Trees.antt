@@ -15,7 +15,7 @@ use Rattle.m2v_model.specs.declared.state.Sequence.{Sequence}
 use Rattle.m2v_model.specs.declared.state.State.{State}
 use Rattle.m2v_model.specs.States.{at_first}
 use Rattle.m2v_model.specs.Streams.{Part, Sofar, sequence, group, picture, slice, ending, after}
-use Rattle.m2v_law_tree.specs.Slices.{slice_read}
+use Rattle.m2v_enc_stream.specs.Slices.{slice_read}
 
 -- the sequence header and its extension
 abbrev pub sequence_by : Settings → Sequence

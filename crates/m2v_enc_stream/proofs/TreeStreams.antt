@@ -16,12 +16,12 @@ use Rattle.m2v_model.specs.Decoding.{Stream}
 use Rattle.m2v_model.specs.Chains.{Chain, nothing, link}
 use Rattle.m2v_model.proofs.Ends.{end_bytes, end_packs, end_stands}
 use Rattle.m2v_model.proofs.Chains.{rounds_of, stream_of}
-use Rattle.m2v_law_tree.specs.Trees.{groups_of, groups_parts, state_behind, tree_of}
-use Rattle.m2v_law_tree.specs.States.{state_with}
-use Rattle.m2v_law_tree.proofs.Zeros.{padded_cuts}
-use Rattle.m2v_law_tree.proofs.SliceUnits.{Spelled}
-use Rattle.m2v_law_tree.proofs.Follows.{stream_follows}
-use Rattle.m2v_law_tree.proofs.Groups.{IsBetween, Between, AllFollow, groups_units, groups_read, groups_add}
+use Rattle.m2v_enc_stream.specs.Trees.{groups_of, groups_parts, state_behind, tree_of}
+use Rattle.m2v_enc_stream.specs.States.{state_with}
+use Rattle.m2v_enc_stream.proofs.Zeros.{padded_cuts}
+use Rattle.m2v_enc_stream.proofs.SliceUnits.{Spelled}
+use Rattle.m2v_enc_stream.proofs.Follows.{stream_follows}
+use Rattle.m2v_enc_stream.proofs.TreeGroups.{IsBetween, Between, AllFollow, groups_units, groups_read, groups_add}
 
 -- ---- the state behind parts
 

@@ -10,7 +10,7 @@ use Rattle.m2v_model.specs.declared.state.Open.{Open}
 use Rattle.m2v_model.specs.declared.state.FirstField.{FirstField}
 use Rattle.m2v_model.specs.declared.state.State.{State}
 use Rattle.m2v_model.specs.States.{one_anchor_more}
-use Rattle.m2v_law_tree.specs.Trees.{sequence_by}
+use Rattle.m2v_enc_stream.specs.Trees.{sequence_by}
 
 -- once the sequence header was read: whether the group is closed, how many anchors were decoded, the first field that
 -- waits, and the picture that is open

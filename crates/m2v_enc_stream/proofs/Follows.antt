@@ -7,7 +7,7 @@ use Rattle.m2v_order.specs.Groups.{Group}
 use Rattle.m2v_enc_stream.specs.Streams.{Progress, at_start, book_of, group_coded, groups_of}
 use Rattle.m2v_enc_stream.proofs.Places.{delay_small}
 use Rattle.m2v_enc_stream.proofs.Stands.{HasBook, HaveBooks, have_books}
-use Rattle.m2v_law_tree.proofs.Groups.{MayFollow, AllFollow}
+use Rattle.m2v_enc_stream.proofs.TreeGroups.{MayFollow, AllFollow}
 
 follows_is : (s : Settings) (x : Progress) (g : Group Samples) (ends : Bool) → HasBook s x g → MayFollow s x g ends
 follows_is s x g ends h = record {

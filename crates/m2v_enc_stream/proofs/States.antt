@@ -25,10 +25,10 @@ use Rattle.m2v_model.specs.States as model
 use Rattle.m2v_model.specs.States.{at_first, one_anchor_more, columns_of, rows_of, picture_rows, drops, references_for, with_slice, is_complete, is_second_field_due, has_anchor, is_same_sequence, slice_setup}
 use Rattle.m2v_model.specs.Slices.{large_in}
 use Rattle.m2v_model.specs.Streams.{sequence, group, picture, slice, after}
-use Rattle.m2v_law_tree.specs.Slices.{slice_read, setup_of, AreDecoded}
-use Rattle.m2v_law_tree.specs.Trees.{sequence_by, task_at}
-use Rattle.m2v_law_tree.specs.States.{state_with, open_at, waiting_behind, anchors_behind}
-use Rattle.m2v_law_tree.proofs.Turns.{IsTurn, turn_at, IsCounted, anchor_before_p, anchors_before_b}
+use Rattle.m2v_enc_stream.specs.Slices.{slice_read, setup_of, AreDecoded}
+use Rattle.m2v_enc_stream.specs.Trees.{sequence_by, task_at}
+use Rattle.m2v_enc_stream.specs.States.{state_with, open_at, waiting_behind, anchors_behind}
+use Rattle.m2v_enc_stream.proofs.Turns.{IsTurn, turn_at, IsCounted, anchor_before_p, anchors_before_b}
 
 -- ---- sizes
 

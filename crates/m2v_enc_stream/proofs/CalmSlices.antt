@@ -23,11 +23,11 @@ use Rattle.m2v_model.specs.Modes.{all_inside, references_decoded}
 use Rattle.m2v_model.specs.Slices.{Row, block_in, blocks_from, macroblock_at, macroblock_round}
 use Rattle.m2v_model.specs.Texts.{Calm, IsCalm}
 use Rattle.m2v_model.proofs.Calm.{calm_less, calm_then, calm_any, calm_end}
-use Rattle.m2v_law_tree.specs.Slices.{AreDecoded, setup_of, slice_body}
-use Rattle.m2v_law_tree.proofs.CalmSyntax.{Calmly, Any, calmly_to, done_calm, here_calm, zero_calm, rule_calm, seq_calm, choose_calm, renamed_calm, rounds_front}
-use Rattle.m2v_law_tree.proofs.CalmBlocks.{block_calm}
-use Rattle.m2v_law_tree.proofs.CalmMacros.{AreShort, HasShort, macro_calm}
-use Rattle.m2v_law_tree.proofs.Slices.{rounds_stand}
+use Rattle.m2v_enc_stream.specs.Slices.{AreDecoded, setup_of, slice_body}
+use Rattle.m2v_enc_stream.proofs.CalmSyntax.{Calmly, Any, calmly_to, done_calm, here_calm, zero_calm, rule_calm, seq_calm, choose_calm, renamed_calm, rounds_front}
+use Rattle.m2v_enc_stream.proofs.CalmBlocks.{block_calm}
+use Rattle.m2v_enc_stream.proofs.CalmMacros.{AreShort, HasShort, macro_calm}
+use Rattle.m2v_enc_stream.proofs.Slices.{rounds_stand}
 
 -- ---- macroblocks
 

@@ -16,7 +16,7 @@ use Rattle.m2v_pred.specs.Patches.{part_count}
 use Rattle.m2v_slice.proofs.Motions.{type_tells}
 use Rattle.m2v_macroblock.specs.Modes.{mode_of, told_mode, without_motion_type, skipped_mode}
 use Rattle.m2v_model.specs.Modes.{part_decoded, direction_decoded, is_decoded}
-use Rattle.m2v_law_tree.specs.Slices.{AreDecoded}
+use Rattle.m2v_enc_stream.specs.Slices.{AreDecoded}
 
 -- ---- where both fields were decoded
 

@@ -13,7 +13,7 @@ use Rattle.m2v_quant.specs.declared.kind.BlockKind.{BlockKind}
 use Rattle.m2v_block.specs.declared.fault.BlockFault.TheVariants.{Overrun, ForbiddenLevel, DcRange}
 use Rattle.m2v_block.specs.Faults.{of_code, cut}
 use Rattle.m2v_block.specs.Blocks.{Scan, difference, is_dc, size_at, dc_at, placed, escaped, is_allowed, coefficient_at, code_from, pair_at, pairs_at, opened, first_at, block_at}
-use Rattle.m2v_law_tree.proofs.CalmSyntax.{Calmly, Any, done_calm, here_calm, rule_calm, seq_calm, choose_calm, renamed_calm, bits_calm, number_calm, repeated_calm, is_calm, row_calm, code_calm}
+use Rattle.m2v_enc_stream.proofs.CalmSyntax.{Calmly, Any, done_calm, here_calm, rule_calm, seq_calm, choose_calm, renamed_calm, bits_calm, number_calm, repeated_calm, is_calm, row_calm, code_calm}
 
 -- ---- the DC level
 

@@ -22,13 +22,13 @@ use Rattle.m2v_model.specs.Streams.{Part}
 use Rattle.m2v_model.specs.Chains.{Chain, nothing}
 use Rattle.m2v_model.proofs.Chains.{chain_then}
 use Rattle.m2v_model.proofs.Units.{packs_none}
-use Rattle.m2v_law_tree.specs.Trees.{sequence_by, pictures_parts, group_parts, groups_parts}
-use Rattle.m2v_law_tree.specs.States.{state_with, open_at, waiting_behind, anchors_behind}
-use Rattle.m2v_law_tree.proofs.Turns.{IsCounted, none_behind, anchors_end}
-use Rattle.m2v_law_tree.proofs.States.{state_before, state_at, references_at, complete_at, first_sequence}
-use Rattle.m2v_law_tree.proofs.Zeros.{Holds, holds_packs, holds_append}
-use Rattle.m2v_law_tree.proofs.SliceUnits.{Spelled}
-use Rattle.m2v_law_tree.proofs.PictureChains.{picture_units_of, IsReady, ready_at, picture_read, picture_text_holds}
+use Rattle.m2v_enc_stream.specs.Trees.{sequence_by, pictures_parts, group_parts, groups_parts}
+use Rattle.m2v_enc_stream.specs.States.{state_with, open_at, waiting_behind, anchors_behind}
+use Rattle.m2v_enc_stream.proofs.Turns.{IsCounted, none_behind, anchors_end}
+use Rattle.m2v_enc_stream.proofs.States.{state_before, state_at, references_at, complete_at, first_sequence}
+use Rattle.m2v_enc_stream.proofs.Zeros.{Holds, holds_packs, holds_append}
+use Rattle.m2v_enc_stream.proofs.SliceUnits.{Spelled}
+use Rattle.m2v_enc_stream.proofs.PictureChains.{picture_units_of, IsReady, ready_at, picture_read, picture_text_holds}
 
 -- ---- pictures
 

@@ -26,7 +26,7 @@ use Rattle.m2v_macro.specs.Macros.{added, round_at, increment_from, allowed_at, 
 use Rattle.m2v_macro.specs.Conditions.{has_type, is_used}
 use Rattle.m2v_macro.proofs.Types.{in_i, in_p, in_b}
 use Rattle.m2v_macro.proofs.Ready.{used_forward, used_backward}
-use Rattle.m2v_law_tree.proofs.CalmSyntax.{Calmly, Any, front_same, calmly_from, calmly_to, done_calm, here_calm, rule_calm, seq_calm, choose_calm, renamed_calm, bits_calm, number_calm, repeated_calm, is_calm, row_calm, code_calm}
+use Rattle.m2v_enc_stream.proofs.CalmSyntax.{Calmly, Any, front_same, calmly_from, calmly_to, done_calm, here_calm, rule_calm, seq_calm, choose_calm, renamed_calm, bits_calm, number_calm, repeated_calm, is_calm, row_calm, code_calm}
 
 -- ---- increments
 

@@ -5,12 +5,12 @@ ghost use Rattle.m2v_slice.specs.Slices.{SliceTask};
 ghost use Rattle.m2v_slice.specs.Laws.{IsSlice};
 ghost use Rattle.m2v_model.specs.Slices.{slice_at, large_in};
 ghost use Rattle.m2v_model.specs.Texts.{IsCalm};
-ghost use Rattle.m2v_law_tree.specs.Slices.{AreDecoded, setup_of, slice_body, slice_read};
+ghost use Rattle.m2v_enc_stream.specs.Slices.{AreDecoded, setup_of, slice_body, slice_read};
 ghost use Rattle.m2v_set.specs.declared.settings.Settings.{Settings};
 ghost use Rattle.m2v_set.specs.Rules.{Passes};
 ghost use Rattle.m2v_enc_stream.specs.Streams.{Coded};
 ghost use Rattle.m2v_model.specs.Decoding.{Stream};
-ghost use Rattle.m2v_law_tree.specs.Trees.{tree_of};
+ghost use Rattle.m2v_enc_stream.specs.Trees.{tree_of};
 
 /// No start code stands inside a slice.
 pub fn law_slice_calm()

@@ -27,9 +27,9 @@ use Rattle.m2v_slice.proofs.Keeps.{increment_is, skip_where, keeps}
 use Rattle.m2v_slice.proofs.Fits.{chosen, last_written}
 use Rattle.m2v_model.specs.Looking.{looking}
 use Rattle.m2v_model.specs.Slices.{Row, with_next, macroblock_at, macroblock_round, macroblocks_at, slice_start, begins_late, unit_place, slice_at, is_large, large_in}
-use Rattle.m2v_law_tree.specs.Slices.{AreDecoded, setup_of, slice_body, slice_read, macroblock_bits}
-use Rattle.m2v_law_tree.proofs.Macroblocks.{SkipsInside, none_inside, more_inside, written_spells}
-use Rattle.m2v_law_tree.proofs.Rounds.{Leads, leads_none, leads_more, leads_last, macroblock_one, behind_increment, increment_first}
+use Rattle.m2v_enc_stream.specs.Slices.{AreDecoded, setup_of, slice_body, slice_read, macroblock_bits}
+use Rattle.m2v_enc_stream.proofs.Macroblocks.{SkipsInside, none_inside, more_inside, written_spells}
+use Rattle.m2v_enc_stream.proofs.Rounds.{Leads, leads_none, leads_more, leads_last, macroblock_one, behind_increment, increment_first}
 
 -- ---- one macroblock more
 

@@ -36,15 +36,15 @@ use Rattle.m2v_model.specs.Texts.{Packs}
 use Rattle.m2v_model.specs.Chains.{Reads, Chain, nothing, link}
 use Rattle.m2v_model.proofs.Chains.{chain_then}
 use Rattle.m2v_model.proofs.Units.{packs_none, packs_unit, packs_append}
-use Rattle.m2v_law_tree.specs.Slices.{slice_body}
-use Rattle.m2v_law_tree.specs.Trees.{sequence_by, header_parts, task_at, picture_parts}
-use Rattle.m2v_law_tree.specs.States.{waiting_behind, anchors_behind}
-use Rattle.m2v_law_tree.proofs.Turns.{IsCounted, IsTurn, turn_at}
-use Rattle.m2v_law_tree.proofs.States.{next_sequence, next_group, same_sequence, state_before, state_at, header_after}
-use Rattle.m2v_law_tree.proofs.CalmHeaders.{sequence_calm, sequence_extension_calm, group_calm, picture_calm, coding_calm}
-use Rattle.m2v_law_tree.proofs.Zeros.{padded, Holds, holds_packs, holds_append, holds_zeros}
-use Rattle.m2v_law_tree.proofs.SliceUnits.{Spelled, slice_bytes, task_slice, rows_chain}
-use Rattle.m2v_law_tree.proofs.Pictures.{sequence_bytes, extension_bytes, group_bytes, picture_bytes, coding_bytes, sequence_reads, group_reads, picture_reads}
+use Rattle.m2v_enc_stream.specs.Slices.{slice_body}
+use Rattle.m2v_enc_stream.specs.Trees.{sequence_by, header_parts, task_at, picture_parts}
+use Rattle.m2v_enc_stream.specs.States.{waiting_behind, anchors_behind}
+use Rattle.m2v_enc_stream.proofs.Turns.{IsCounted, IsTurn, turn_at}
+use Rattle.m2v_enc_stream.proofs.States.{next_sequence, next_group, same_sequence, state_before, state_at, header_after}
+use Rattle.m2v_enc_stream.proofs.CalmHeaders.{sequence_calm, sequence_extension_calm, group_calm, picture_calm, coding_calm}
+use Rattle.m2v_enc_stream.proofs.Zeros.{padded, Holds, holds_packs, holds_append, holds_zeros}
+use Rattle.m2v_enc_stream.proofs.SliceUnits.{Spelled, slice_bytes, task_slice, rows_chain}
+use Rattle.m2v_enc_stream.proofs.TreePictures.{sequence_bytes, extension_bytes, group_bytes, picture_bytes, coding_bytes, sequence_reads, group_reads, picture_reads}
 
 -- ---- the units of a picture
 

@@ -25,12 +25,12 @@ use Rattle.m2v_model.specs.Streams.{Part, slice, after, read_slice, slice_in, sl
 use Rattle.m2v_model.specs.Texts.{unit_bytes, IsCalm}
 use Rattle.m2v_model.specs.Chains.{Reads, Chain, nothing, link}
 use Rattle.m2v_model.proofs.Chains.{chain_then}
-use Rattle.m2v_law_tree.specs.Slices.{AreDecoded, setup_of, slice_body, slice_read}
-use Rattle.m2v_law_tree.specs.Trees.{sequence_by, task_at, slice_parts}
-use Rattle.m2v_law_tree.specs.States.{open_at}
-use Rattle.m2v_law_tree.proofs.Turns.{IsCounted}
-use Rattle.m2v_law_tree.proofs.States.{covered_is, row_is, read_is, picture_rows_are, state_at, references_at, slice_after, decoded_at, setup_at}
-use Rattle.m2v_law_tree.proofs.Zeros.{padded, zeros_behind, padded_stands}
+use Rattle.m2v_enc_stream.specs.Slices.{AreDecoded, setup_of, slice_body, slice_read}
+use Rattle.m2v_enc_stream.specs.Trees.{sequence_by, task_at, slice_parts}
+use Rattle.m2v_enc_stream.specs.States.{open_at}
+use Rattle.m2v_enc_stream.proofs.Turns.{IsCounted}
+use Rattle.m2v_enc_stream.proofs.States.{covered_is, row_is, read_is, picture_rows_are, state_at, references_at, slice_after, decoded_at, setup_at}
+use Rattle.m2v_enc_stream.proofs.Zeros.{padded, zeros_behind, padded_stands}
 
 -- ---- what slices are coded of
 

@@ -21,10 +21,10 @@ use Rattle.m2v_slice.proofs.Fits.{chosen}
 use Rattle.m2v_model.specs.Slices.{macroblock_at}
 use Rattle.m2v_model.specs.Written.{CanBeWritten}
 use Rattle.m2v_model.proofs.MacroblockSpellings.{macroblock_spells}
-use Rattle.m2v_law_tree.specs.Slices.{AreDecoded, setup_of}
-use Rattle.m2v_law_tree.proofs.Levels.{choice_levels}
-use Rattle.m2v_law_tree.proofs.Decoded.{decoded_by, mode_may, skipped_may}
-use Rattle.m2v_law_tree.proofs.Insides.{StandsAt, spot, inside_all, decoded_all}
+use Rattle.m2v_enc_stream.specs.Slices.{AreDecoded, setup_of}
+use Rattle.m2v_enc_stream.proofs.Levels.{choice_levels}
+use Rattle.m2v_enc_stream.proofs.Decoded.{decoded_by, mode_may, skipped_may}
+use Rattle.m2v_enc_stream.proofs.Insides.{StandsAt, spot, inside_all, decoded_all}
 use Rattle.m2v_slice.proofs.m2v_choose.Tried.{own_picture}
 
 -- ---- skipped macroblocks

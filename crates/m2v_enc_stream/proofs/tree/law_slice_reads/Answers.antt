@@ -1,5 +1,5 @@
-use Rattle.m2v_law_tree.proofs.Slices.{slice_stands, none_large}
-use Rattle.m2v_law_tree.proofs.laws.law_slice_reads.Goals as goal
+use Rattle.m2v_enc_stream.proofs.Slices.{slice_stands, none_large}
+use Rattle.m2v_enc_stream.proofs.tree.law_slice_reads.Goals as goal
 
 pub returns : goal.returns
 returns c = record {

@@ -15,7 +15,7 @@ use Rattle.m2v_slice.specs.Conditions.{IsBook}
 use Rattle.m2v_slice.proofs.Firsts.{first_kind}
 use Rattle.m2v_model.specs.declared.state.FirstField.{FirstField}
 use Rattle.m2v_model.specs.States.{one_anchor_more}
-use Rattle.m2v_law_tree.specs.States.{waiting_behind, anchors_behind}
+use Rattle.m2v_enc_stream.specs.States.{waiting_behind, anchors_behind}
 
 -- ---- fields
 

@@ -18,13 +18,13 @@ use Rattle.m2v_model.specs.States.{is_complete, none_waits, is_same_sequence}
 use Rattle.m2v_model.specs.Streams.{sequence, group, picture, close, no_second_field_due, group_unit, onward, later_unit, known_unit}
 use Rattle.m2v_model.specs.Texts.{ended, unit_bytes}
 use Rattle.m2v_model.specs.Chains.{Reads}
-use Rattle.m2v_law_tree.specs.Trees.{sequence_by}
-use Rattle.m2v_law_tree.specs.States.{state_with}
-use Rattle.m2v_law_tree.proofs.Turns.{IsCounted}
-use Rattle.m2v_law_tree.proofs.States.{progressive_is, state_before, due_at, anchored_at}
+use Rattle.m2v_enc_stream.specs.Trees.{sequence_by}
+use Rattle.m2v_enc_stream.specs.States.{state_with}
+use Rattle.m2v_enc_stream.proofs.Turns.{IsCounted}
+use Rattle.m2v_enc_stream.proofs.States.{progressive_is, state_before, due_at, anchored_at}
 use Rattle.m2v_model.proofs.Headers.{inside_stands}
 use Rattle.m2v_model.proofs.HeaderUnits as reading
-use Rattle.m2v_law_tree.proofs.Headers.{sequence_stands, extension_stands, sequence_id, group_stands, picture_stands, coding_stands, picture_id}
+use Rattle.m2v_enc_stream.proofs.Headers.{sequence_stands, extension_stands, sequence_id, group_stands, picture_stands, coding_stands, picture_id}
 
 -- ---- headers
 

@@ -1,5 +1,0 @@
-use Rattle.m2v_law_tree.proofs.CalmSlices.{slice_calm}
-use Rattle.m2v_law_tree.proofs.laws.law_slice_calm.Goals as goal
-
-pub returns : goal.returns
-returns c = λ t slice. slice_calm t slice
