@@ -25,7 +25,7 @@ use Rattle.m2v_choose.proofs.Headers.{text_length}
 use Rattle.m2v_choose.proofs.Tried.{kept, tried_none, tried_on}
 
 -- an intra type has five bits at least
-type_least : (k : ℕ) (quant : Bool) → (k ≡ 2) ⊎ (k ≡ 3) → 5 ≤ length (kind_text k (record { quant = quant; forward = false; backward = false; pattern = false; intra = true }))
+pub type_least : (k : ℕ) (quant : Bool) → (k ≡ 2) ⊎ (k ≡ 3) → 5 ≤ length (kind_text k (record { quant = quant; forward = false; backward = false; pattern = false; intra = true }))
 unfolding kind_text type_p type_b code_of
 type_least k true (inl two) = rw two (omega (arith, length-bits_of 6 1))
 type_least k false (inl two) = rw two (omega (arith, length-bits_of 5 3))
@@ -34,7 +34,7 @@ type_least k false (inr three) = rw three (omega (arith, length-bits_of 5 3))
 
 -- six blocks have four bits each
 module _ (c : PictureContext) (st : SliceState) (x : Macroblock) (intra : x.syntax.kind.intra ≡ true) (whole : x.syntax.pattern ≡ 63) (table : c.extension.intra_vlc_format ≡ false) where
-  one_least : (b : ℕ) → is_coded 63 b ≡ true → 4 ≤ length (block_in_text c st x b)
+  pub one_least : (b : ℕ) → is_coded 63 b ≡ true → 4 ≤ length (block_in_text c st x b)
   unfolding block_in_text kind_for
   one_least b on = rw (whole, on, table) (intra_least (kind_for c x.syntax.kind.intra (nat_lt b 4) st.quantiser) (predictor st.dc x.levels b) (block_levels x.levels b) intra)
 
@@ -56,6 +56,10 @@ module _ (c : PictureContext) (st : SliceState) (x : Macroblock) (intra : x.synt
         one_least 4 refl,
         one_least 5 refl,
       )
+
+pub header_least : (d : Decision) (st : SliceState) (k : Coding) → (d.context.kind ≡ 2) ⊎ (d.context.kind ≡ 3) → 5 ≤ length (macro_text d.context st (intra_syntax d k))
+unfolding intra_syntax
+header_least d st k kind = omega (arith, text_length d.context st (intra_syntax d k), type_least d.context.kind (intra_syntax d k).kind.quant kind)
 
 module _ (d : Decision) (own : IsOwn d.context) (kind : (d.context.kind ≡ 2) ⊎ (d.context.kind ≡ 3)) where
   intra_bits : (k : Coding) → 29 ≤ bits_taken d (intra_by d k)

@@ -1,5 +1,5 @@
 -- Where no coefficient reaches twice the quantiser code, no block of a predicted macroblock has a level.
-use Rattle.std.proofs.Common.{◌≡◌, ℕ, ◌+◌, ◌*◌, ◌/◌, ◌<◌, Bool, true, false, List, [], map, replicate, refl, ap, ◌∙◌, arith, ℤ, pos, negsuc}
+use Rattle.std.proofs.Common.{◌≡◌, ℕ, ◌+◌, ◌*◌, ◌/◌, ◌<◌, Bool, true, false, List, [], ◌∷◌, map, replicate, refl, ap, ◌∙◌, arith, ℤ, pos, negsuc}
 use Rattle.std.specs.Prelude.{min, nat_lt, slice_index, slice_index_or, unsigned_abs}
 use Rattle.std.specs.List.{range_with_len}
 use Rattle.std.proofs.Math.Nat.{div-eq_of_lt}
@@ -12,7 +12,7 @@ use Rattle.m2v_quant.specs.Quantiser.{with_sign, ac_level, level_at, levels_of}
 use Rattle.m2v_idct.specs.Block.{nth}
 use Rattle.m2v_vlc.proofs.ValueLaws.{below, agree}
 use Rattle.m2v_macro.specs.declared.values.PictureContext.{PictureContext}
-use Rattle.m2v_recon.specs.Macro.{kind_of}
+use Rattle.m2v_recon.specs.Macro.{kind_of, kind_at}
 use Rattle.m2v_macroblock.specs.Macroblocks.{kind_for}
 use Rattle.m2v_choose.specs.Decisions.{pattern_of}
 use Rattle.m2v_choose.specs.Own.{IsOwn}
@@ -68,6 +68,14 @@ module _ (c : PictureContext) (q : ℕ) (own : IsOwn c) where
       let g = level_at f (kind_for c false luma q) in
       fill_by_all (λ (k : ℕ). pos 0) (map g (range_with_len 0 64)) 64 (pos 0) (length-map-range_with_len g 0 64)
       (λ k lt. get_or-map-range_with_len g 0 64 k k (pos 0) lt (omega arith) ∙ level_of_kind luma f k lt low)
+
+  -- so it has none
+  pub none_there : (kinds : List BlockKind) → kinds ≡ kind_for c false true q ∷ kind_for c false false q ∷ [] → (f : List ℤ) (b : ℕ)
+      → ((k : ℕ) → k < 64 → unsigned_abs (nth f k) < 2 * q) → levels_of f (kind_of (kind_at kinds 0) (kind_at kinds 1) b) ≡ replicate 64 (pos 0)
+  unfolding no_levels_here
+  none_there kinds known f b low =
+      ap (λ (ks : List BlockKind). levels_of f (kind_of (kind_at ks 0) (kind_at ks 1) b)) known
+      ∙ either (λ (kind : BlockKind). levels_of f kind ≡ no_levels_here) (nat_lt b 4) (kind_for c false true q) (kind_for c false false q) (block_none true f low) (block_none false f low)
 
   pub none_reached : (ts : List (List ℤ)) → ((b k : ℕ) → b < 6 → k < 64 → unsigned_abs (nth (slice_index_or ts b []) k) < 2 * q)
       → pattern_of (quantised_by ts (kind_for c false true q) (kind_for c false false q)) ≡ 0

@@ -1,9 +1,12 @@
 -- Codings of an intra macroblock, as they are tried.
-use Rattle.std.proofs.Common.{◌≡◌, ℕ, Bool, true, false, cond, List, [], ◌∷◌, ◌++◌, map, refl, ap, sym, ◌∙◌, subst, replicate, ℤ}
-use Rattle.std.specs.Prelude.{nat_eq}
+use Rattle.std.proofs.Common.{◌≡◌, ℕ, Bool, true, false, cond, not, All, List, [], ◌∷◌, ◌++◌, map, refl, ap, sym, ◌∙◌, subst, replicate, ℤ}
+use Rattle.std.specs.Prelude.{nat_eq, if◌then◌else◌}
+use Rattle.std.proofs.lemmas.Bool.{eqb-true}
 use Rattle.std.proofs.lemmas.List.{map-append}
 use Rattle.m2v_quant.specs.declared.kind.BlockKind.{BlockKind}
+use Rattle.m2v_quant.specs.Kinds.{IsKind}
 use Rattle.m2v_macro.specs.declared.values.MacroSyntax.{MacroSyntax}
+use Rattle.m2v_macro.specs.States.{after}
 use Rattle.m2v_recon.specs.Macro.{kind_at}
 use Rattle.m2v_macroblock.specs.Macroblocks.{Macroblock, kind_for}
 use Rattle.m2v_macroblock.specs.Predictions.{prediction_of}
@@ -13,10 +16,10 @@ use Rattle.m2v_choose.specs.Decisions.{Decision, Candidate, Coding, place_of, wr
 use Rattle.m2v_choose.specs.Candidates.{codings_at, codings, second_q, intra_by}
 use Rattle.m2v_choose.specs.Own.{IsCode}
 use Rattle.m2v_choose.specs.Laws.{IsWritable}
-use Rattle.m2v_choose.specs.Trials.{References, decided, IsTask, Predicts, Tried, has_types, transforms_of, quantised_by}
+use Rattle.m2v_choose.specs.Trials.{References, decided, IsTask, Predicts, Tried, has_types, transforms_of, quantised_by, CanTryIntra}
 use Rattle.m2v_choose.proofs.Written.{intra_written}
 use Rattle.m2v_choose.proofs.Tried.{tried_on, first_step}
-use Rattle.m2v_choose.proofs.Coded.{same_levels}
+use Rattle.m2v_choose.proofs.Coded.{same_levels, kinds_plain}
 
 -- some references: an intra macroblock needs none
 pub no_references : References
@@ -59,6 +62,44 @@ module _ (t : Task) (m : MacroSyntax) (transforms ls : List (List ℤ)) (q : ℕ
   pub intra_tried : (r : References) (old new : Best) → Tried (decided r t) old new (written m ls ∷ [])
       → Tried (decided r t) old new (intra_by (decided r t) (record { q = q; dct_field = dct }) ∷ [])
   intra_tried r old new tried = subst (λ (x : Candidate). Tried (decided r t) old new (x ∷ [])) (intra_is r) tried
+
+-- ---- what can be tried
+
+not_false : (b : Bool) → not b ≡ false → b ≡ true
+not_false true e = refl
+not_false false e = absurd cc
+
+own_quantiser : (b : Bool) (q s : ℕ) → not (nat_eq q s) ≡ b → (if b then cond b q 0 else s) ≡ q
+own_quantiser true q s e = refl
+own_quantiser false q s e = sym (eqb-true q s (not_false (nat_eq q s) e))
+
+module _ (t : Task) (q : ℕ) (dct : Bool) (kinds : List BlockKind) (known : kinds ≡ kind_for t.context.now true true q ∷ kind_for t.context.now true false q ∷ []) where
+  quantiser_is : (r : References) → (after t.context.now t.state.now (intra_syntax (decided r t) (record { q = q; dct_field = dct }))).quantiser ≡ q
+  unfolding after intra_syntax
+  quantiser_is r = own_quantiser (not (nat_eq q t.state.now.quantiser)) q t.state.now.quantiser refl
+
+  module _ (each : All IsKind kinds) (task : IsTask t) (code : IsCode q) (types : dct ≡ true → has_types t.context.now ≡ true)
+      (syntax : (r : References) → intra_syntax (decided no_references t) (record { q = q; dct_field = dct }) ≡ intra_syntax (decided r t) (record { q = q; dct_field = dct })) where
+    can_by : CanTryIntra t (intra_syntax (decided no_references t) (record { q = q; dct_field = dct })) kinds
+    unfolding intra_syntax
+    can_by =
+        let n = intra_syntax (decided no_references t) (record { q = q; dct_field = dct }) in
+        let ts = transforms_of t.source.now.at (replicate 384 0) dct in
+        record {
+          intra = refl;
+          pattern = refl;
+          known = known ∙ ap (λ (z : ℕ). kind_for t.context.now true true z ∷ kind_for t.context.now true false z ∷ []) (sym (quantiser_is no_references));
+          each = each;
+          precision = kinds_plain t.context.now true q kinds task.asked.own.precision known;
+          writable = intra_writable t n ts (quantised_by ts (kind_at kinds 0) (kind_at kinds 1)) q dct kinds syntax refl known refl task code types;
+        }
+
+    pub intra_can : (m : MacroSyntax) → ((r : References) → m ≡ intra_syntax (decided r t) (record { q = q; dct_field = dct })) → CanTryIntra t m kinds
+    intra_can m e = subst (λ (n : MacroSyntax). CanTryIntra t n kinds) (sym (e no_references)) can_by
+
+pub intra_form : (t : Task) (q : ℕ) (dct : Bool) (m : MacroSyntax) → ((r : References) → m ≡ intra_syntax (decided r t) (record { q = q; dct_field = dct })) → m.dct_field ≡ dct
+unfolding intra_syntax
+intra_form t q dct m e = ap (λ (n : MacroSyntax). n.dct_field) (e no_references)
 
 -- ---- in order
 

@@ -30,5 +30,7 @@ pub use Rattle.m2v_search.proofs as m2v_search
 pub mod Headers
 pub mod Cheapest
 pub mod CheapestIntra
+pub mod IntraParts
+pub mod IntraTried
 pub mod Settled
 pub mod Means

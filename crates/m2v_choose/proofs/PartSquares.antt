@@ -138,6 +138,34 @@ module _ (s p : List ℕ) where
       let b5 = block_lines true 5 (λ l. 320 + 8 * l) (λ l. omega arith) in
       omega (arith, six (block_squared true s p), luma_squared, from_none, by_fields 0, by_fields 8, chroma_squared 256, chroma_squared 320, b0, b1, b2, b3, b4, b5)
 
+  -- two blocks one above the other have the same lines by either DCT type
+  pub left_lines : block_squared false s p 0 + block_squared false s p 2 ≡ block_squared true s p 0 + block_squared true s p 2
+  unfolding block_place
+  left_lines =
+      let a = block_lines false 0 (λ l. 16 * l + 0) (λ l. omega arith) in
+      let b = block_lines false 2 (λ l. 16 * (8 + l) + 0) (λ l. omega arith) in
+      let c = block_lines true 0 (λ l. 16 * (2 * l) + 0) (λ l. omega arith) in
+      let d = block_lines true 2 (λ l. 16 * (2 * l + 1) + 0) (λ l. omega arith) in
+      omega (arith, by_halves 0, by_fields 0, a, b, c, d)
+
+  pub right_lines : block_squared false s p 1 + block_squared false s p 3 ≡ block_squared true s p 1 + block_squared true s p 3
+  unfolding block_place
+  right_lines =
+      let a = block_lines false 1 (λ l. 16 * l + 8) (λ l. omega arith) in
+      let b = block_lines false 3 (λ l. 16 * (8 + l) + 8) (λ l. omega arith) in
+      let c = block_lines true 1 (λ l. 16 * (2 * l) + 8) (λ l. omega arith) in
+      let d = block_lines true 3 (λ l. 16 * (2 * l + 1) + 8) (λ l. omega arith) in
+      omega (arith, by_halves 8, by_fields 8, a, b, c, d)
+
+  -- and chroma blocks are the same
+  pub blue_lines : block_squared false s p 4 ≡ block_squared true s p 4
+  unfolding block_squared block_place
+  blue_lines = refl
+
+  pub red_lines : block_squared false s p 5 ≡ block_squared true s p 5
+  unfolding block_squared block_place
+  red_lines = refl
+
 -- ---- blocks with levels, and blocks without
 
 -- a line and a column of luma, and back
@@ -288,6 +316,21 @@ own_alike dct x p ls pattern luma chroma b lt alike =
           ∙ ap (λ (k : ℕ). clamped (pos (if is_coded pattern b && (kind_of luma chroma b).intra then 0 else k) +ℤ difference (8 * l + c))) (alike.at l c ll small)
           ∙ sym (block_sample dct p p ls pattern luma chroma b l c lt ll small);
     }
+
+-- a block is rebuilt by its own levels alone
+pub levels_alike : (dct : Bool) (p : List ℕ) (ls ms : List (List ℤ)) (pattern : ℕ) (luma chroma : BlockKind) (b : ℕ) → b < 6
+    → slice_index_or ls b (replicate 64 (pos 0)) ≡ slice_index_or ms b (replicate 64 (pos 0))
+    → AreAlike dct b (block_by (macro_sample p ls pattern luma chroma dct)) (block_by (macro_sample p ms pattern luma chroma dct))
+unfolding samples rebuilt_at
+levels_alike dct p ls ms pattern luma chroma b lt same = record {
+  at = λ l c ll small.
+      let k = block_place dct b (8 * l) + c in
+      let sample = λ (z : List ℤ).
+      clamped (pos (if is_coded pattern b && (kind_of luma chroma b).intra then 0 else get_or p k 0)
+      +ℤ (if is_coded pattern b then slice_index_or (inverse_of (coefficients_of z (kind_of luma chroma b))) (8 * l + c) (pos 0) else pos 0)) in
+      block_sample dct p p ls pattern luma chroma b l c lt ll small ∙ ap sample same
+      ∙ sym (block_sample dct p p ms pattern luma chroma b l c lt ll small);
+}
 
 -- a block that isn't coded keeps its samples
 pub other_alike : (dct : Bool) (p : List ℕ) (ls : List (List ℤ)) (pattern : ℕ) (luma chroma : BlockKind) (b : ℕ) → b < 6 → is_coded pattern b ≡ false

@@ -28,6 +28,21 @@ chroma_fields s p b frame same le lt =
       | inr five ↦ let e : 5 ≡ b = omega (arith, lt, five) in subst (λ (n : ℕ). get_or (transforms_of s p false) n [] ≡ forward_of (differences s p true n)) e (five_fields s p)
     ]
 
+-- what is transformed of a chroma block is
+four_same : (s p : List ℕ) (x y : Bool) → differences s p x 4 ≡ differences s p y 4
+unfolding differences block_place
+four_same s p x y = refl
+
+five_same : (s p : List ℕ) (x y : Bool) → differences s p x 5 ≡ differences s p y 5
+unfolding differences block_place
+five_same s p x y = refl
+
+pub chroma_same : (s p : List ℕ) (x y : Bool) (b : ℕ) → 4 ≤ b → b < 6 → differences s p x b ≡ differences s p y b
+chroma_same s p x y b le lt = elim (cases_lt b 5) [
+  | inl four ↦ let e : 4 ≡ b = omega (arith, le, four) in subst (λ (n : ℕ). differences s p x n ≡ differences s p y n) e (four_same s p x y)
+  | inr five ↦ let e : 5 ≡ b = omega (arith, five, lt) in subst (λ (n : ℕ). differences s p x n ≡ differences s p y n) e (five_same s p x y)
+]
+
 -- the pattern of the first n blocks, by whether each is empty
 abbrev pub bit : Bool → ℕ
 bit b = cond b 1 0

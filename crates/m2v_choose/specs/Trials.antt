@@ -1,17 +1,22 @@
 -- Words of the choice's code: the blocks of a macroblock, and the best candidate so far.
-use Rattle.std.specs.Prelude.{ℕ, min, length, ◌^◌, ◌≢◌, ◌||◌, IsTrue, false, not, cond, ◌&&◌, ◌≡◌, ◌⊎◌, ◌<◌, ◌≤◌, ◌+◌, ◌-◌, ◌*◌, Bool, true, nat_eq, nat_lt, List, [], ◌∷◌, ◌++◌, map, slice_index, slice_index_or, sum_by, if◌then◌else◌, ℤ, pos, neg_ℤ, ◌-ℤ◌, ◌≤ℤ◌, ◌<ℤ◌, Option, IfSome, is_some}
+use Rattle.std.specs.Prelude.{ℕ, All, replicate, min, length, ◌^◌, ◌≢◌, ◌||◌, IsTrue, false, not, cond, ◌&&◌, ◌≡◌, ◌⊎◌, ◌<◌, ◌≤◌, ◌+◌, ◌-◌, ◌*◌, Bool, true, nat_eq, nat_lt, List, [], ◌∷◌, ◌++◌, map, slice_index, slice_index_or, sum_by, if◌then◌else◌, ℤ, pos, neg_ℤ, ◌-ℤ◌, ◌≤ℤ◌, ◌<ℤ◌, Option, IfSome, is_some, unsigned_abs}
 use Rattle.std.specs.List.{range_with_len}
 use Rattle.m2v_plane.specs.declared.dims.Dims.{Dims}
 use Rattle.m2v_plane.specs.declared.planes.Lines.{Lines}
 use Rattle.m2v_plane.specs.declared.planes.Plane.{Plane}
 use Rattle.m2v_quant.specs.declared.kind.BlockKind.{BlockKind}
-use Rattle.m2v_quant.specs.Quantiser.{levels_of}
+use Rattle.m2v_quant.specs.declared.kind.Levels.{Levels}
+use Rattle.m2v_quant.specs.Kinds.{IsKind}
+use Rattle.m2v_quant.specs.Quantiser.{levels_of as quantised}
 pub use Rattle.m2v_quant.specs.Quantiser.{is_empty}
 use Rattle.m2v_idct.specs.Forward.{forward_of}
+use Rattle.m2v_idct.specs.Ranges.{IsCoefficient}
+use Rattle.m2v_idct.specs.Block.{nth}
 use Rattle.m2v_recon.specs.Macro.{kind_of, kind_at, is_coded, macro_sample}
+use Rattle.m2v_recon.specs.Steps.{levels_of}
 use Rattle.m2v_macro.specs.declared.values.SliceState.{SliceState}
 use Rattle.m2v_macro.specs.declared.values.PictureContext.{PictureContext}
-use Rattle.m2v_macro.specs.States.{is_field, skips, pmv_before, dc_reset}
+use Rattle.m2v_macro.specs.States.{is_field, skips, pmv_before, dc_reset, after}
 use Rattle.m2v_macro.specs.Conditions.{IsMacro}
 use Rattle.m2v_macro.specs.Macros.{macro_of, no_vectors}
 use Rattle.m2v_macro.specs.Texts.{macro_text}
@@ -23,7 +28,8 @@ use Rattle.m2v_vector.specs.Predictors.{zeros}
 use Rattle.m2v_pred.specs.declared.mode.MbPlace.{MbPlace}
 use Rattle.m2v_pred.specs.Vectors.{IsPlace, IsInside, HoldsRead}
 use Rattle.m2v_pred.specs.Predicted.{block_by, predicted}
-use Rattle.m2v_macroblock.specs.Macroblocks.{Macroblock, macroblock_of}
+use Rattle.m2v_macroblock.specs.Macroblocks.{Macroblock, macroblock_of, kind_for}
+use Rattle.m2v_macroblock.specs.Texts.{blocks_text}
 use Rattle.m2v_macroblock.specs.Conditions.{AreDc}
 use Rattle.m2v_macroblock.specs.Predictions.{View, prediction_of, sample_at}
 use Rattle.m2v_search.specs.Near.{HasNear, is_field as is_field_line}
@@ -34,10 +40,14 @@ use Rattle.m2v_choose.specs.declared.vectors.FieldVector.{FieldVector}
 use Rattle.m2v_choose.specs.declared.vectors.Vectors.{Vectors}
 use Rattle.m2v_choose.specs.declared.task.Task.{Task}
 use Rattle.m2v_choose.specs.declared.coding.Uncoded.{Uncoded}
+use Rattle.m2v_choose.specs.declared.intra.Sums.{Sums}
+use Rattle.m2v_choose.specs.declared.scratch.FirstTransforms.{FirstTransforms}
+use Rattle.m2v_choose.specs.declared.scratch.BothTransforms.{BothTransforms}
 use Rattle.m2v_choose.specs.Decisions.{Decision, Candidate, Prediction, has_dct_type, place_of, increment_of, block_place, differences, written, no_levels}
 use Rattle.m2v_choose.specs.Candidates.{plain_form, plain_direction, field_direction, predictions_by, zero_prediction}
-use Rattle.m2v_choose.specs.Choice.{bits_taken, samples_of, score, fits, square_at}
+use Rattle.m2v_choose.specs.Choice.{bits_taken, samples_of, score, fits, square_at, squared}
 use Rattle.m2v_choose.specs.Own.{IsOwn, IsCode, IsOwnState, AreLimits}
+use Rattle.m2v_choose.specs.Laws.{IsWritable}
 
 -- a difference of a block
 abbrev pub difference_at : List ℕ → List ℕ → Bool → ℕ → ℕ → ℤ
@@ -50,7 +60,11 @@ transforms_of source prediction dct_field = map (λ block. forward_of (differenc
 
 -- levels of transforms, by the kinds of luma and of chroma blocks
 unfoldable pub quantised_by : List (List ℤ) → BlockKind → BlockKind → List (List ℤ)
-quantised_by transforms luma chroma = map (λ block. levels_of (slice_index_or transforms block []) (kind_of luma chroma block)) (range_with_len 0 6)
+quantised_by transforms luma chroma = map (λ block. quantised (slice_index_or transforms block []) (kind_of luma chroma block)) (range_with_len 0 6)
+
+-- so far the coefficients of six transforms lie from 0 at most
+pub record AreFar (transforms : List (List ℤ)) (most : List ℕ) : Type 0 where
+  pub at : (b k : ℕ) → b < 6 → k < 64 → unsigned_abs (nth (slice_index_or transforms b []) k) ≤ slice_index most b
 
 -- ---- squares of blocks
 
@@ -244,6 +258,42 @@ pub record IsMeasured (t : Task) (plain : Uncoded) : Type 0 where
   pub field : has_types t.context.now ≡ true → AreSquares true t.source.now.at plain.prediction.now.at plain.field.now
   pub least : IsLeast t plain false plain.frame_least
   pub field_least : has_types t.context.now ≡ true → IsLeast t plain true plain.field_least
+
+-- ---- intra macroblocks
+
+-- the transforms of an intra macroblock's first blocks are made
+pub record AreMade (source : List ℕ) (dct_field : Bool) (ts : FirstTransforms) : Type 0 where
+  pub value : (b : ℕ) → b < 6 → b < ts.count → slice_index_or ts.at b [] ≡ forward_of (differences source (replicate 384 0) dct_field b)
+  pub known : (b : ℕ) → b < 6 → b < ts.count → All IsCoefficient (slice_index_or ts.at b [])
+
+-- those by both DCT types
+pub record AreReached (source : List ℕ) (ts : BothTransforms) : Type 0 where
+  pub frame : AreMade source false ts.frame
+  pub field : AreMade source true ts.field
+
+-- those by a DCT type
+abbrev pub first_by : Bool → BothTransforms → FirstTransforms
+first_by dct_field ts = cond dct_field ts.field ts.frame
+
+-- an intra macroblock by its elements and the kinds of its blocks
+abbrev pub intra_macroblock : Task → MacroSyntax → List BlockKind → Macroblock
+intra_macroblock t m kinds = record { syntax = m; levels = quantised_by (transforms_of t.source.now.at (replicate 384 0) m.dct_field) (kind_at kinds 0) (kind_at kinds 1) }
+
+-- such a one can be tried
+pub record CanTryIntra (t : Task) (m : MacroSyntax) (kinds : List BlockKind) : Type 0 where
+  pub intra : m.kind.intra ≡ true
+  pub pattern : m.pattern ≡ 63
+  pub known : kinds ≡ kind_for t.context.now m.kind.intra true (after t.context.now t.state.now m).quantiser ∷ kind_for t.context.now m.kind.intra false (after t.context.now t.state.now m).quantiser ∷ []
+  pub each : All IsKind kinds
+  pub precision : All (λ (kind : BlockKind). kind.precision ≡ 0) kinds
+  pub writable : IsWritable t.context.now t.first (intra_macroblock t m kinds)
+
+-- all of its blocks are reached: their bits, their squares, their levels and their samples are known
+pub record IsIntraWhole (t : Task) (x : Macroblock) (sums : Sums) (levels : List Levels) (samples : List ℕ) : Type 0 where
+  pub bits : sums.bits ≡ length (blocks_text t.context.now (after t.context.now t.first x.syntax) x 0 6)
+  pub squares : sums.squares ≡ squared t.source.now.at samples
+  pub own : levels_of levels ≡ x.levels
+  pub rebuilt : samples ≡ rebuilt_by t (replicate 384 0) x
 
 -- ---- references
 

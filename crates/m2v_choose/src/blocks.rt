@@ -1,5 +1,5 @@
 //! The blocks of a macroblock: what is transformed, the transforms, the levels, and the pattern.
-ghost use Rattle.std.specs.Prelude.{true, false, not, ℕ, ◌≡◌, ◌≤◌, ◌<◌, ◌+◌, ◌*◌, All, [], cond, slice_index_or, pos, ◌-ℤ◌, unsigned_abs};
+ghost use Rattle.std.specs.Prelude.{true, false, not, ℕ, ◌≡◌, ◌≤◌, ◌<◌, ◌+◌, ◌*◌, All, [], cond, replicate, slice_index, slice_index_or, pos, ◌-ℤ◌, unsigned_abs};
 ghost use Rattle.m2v_quant.specs.Kinds.{IsKind, IsLevel};
 ghost use Rattle.m2v_quant.specs.Quantiser.{levels_of as quantised};
 ghost use Rattle.m2v_recon.specs.Macro.{kind_at, kind_of};
@@ -8,7 +8,7 @@ ghost use Rattle.m2v_idct.specs.Ranges.{IsSample, IsCoefficient};
 ghost use Rattle.m2v_idct.specs.Forward.{forward_of};
 ghost use Rattle.m2v_recon.specs.Steps.{levels_of};
 ghost use Rattle.m2v_choose.specs.Decisions.{block_place, differences as differences_of, pattern_of as pattern_in};
-ghost use Rattle.m2v_choose.specs.Trials.{is_empty, difference_at, transforms_of, quantised_by};
+ghost use Rattle.m2v_choose.specs.Trials.{is_empty, difference_at, transforms_of, quantised_by, AreFar};
 
 use m2v_idct::forward_in_place;
 use m2v_pred::Block16;
@@ -87,7 +87,7 @@ fn differences(
 
 /// The transform of a block's differences. One body for all that call it, with the transform inside.
 #[inline(never)]
-fn transform_one(
+pub fn transform_one(
     source: &Block16,
     prediction: &Block16,
     dct_field: bool,
@@ -186,14 +186,25 @@ fn largest(transform: &[i32; 64]) -> u32
     most
 }
 
-/// Whether a coefficient of the six blocks may lie so far from 0.
-pub fn reaches(transforms: &[[i32; 64]; 6], least: u32) -> bool
+/// How far the coefficients of each of the six blocks lie from 0 at most.
+pub fn farthest(transforms: &[[i32; 64]; 6]) -> [u32; 6]
     requires { All (All IsCoefficient) transforms.now }
-    ensures { result ≡ false → (b k : ℕ) → b < 6 → k < 64
-        → unsigned_abs (nth (slice_index_or transforms.now b []) k) < least }
+    ensures { AreFar transforms.now result }
+{
+    let mut most = [0; 6];
+    for block in 0..6usize {
+        most[block] = largest(&transforms[block]);
+    }
+    most
+}
+
+/// Whether a coefficient of the six blocks may lie so far from 0.
+#[inline(always)]
+pub fn reaches(most: &[u32; 6], least: u32) -> bool
+    ensures { result ≡ false → (b : ℕ) → b < 6 → slice_index most.now b < least }
 {
     for block in 0..6usize {
-        if largest(&transforms[block]) >= least {
+        if most[block] >= least {
             return true;
         }
     }
@@ -214,7 +225,7 @@ fn kind_of_block(kinds: &[BlockKind; 2], block: usize) -> &BlockKind
 
 /// The levels of a block: whether any isn't 0.
 #[inline(always)]
-fn quantise_one(
+pub fn quantise_one(
     transform: &[i32; 64],
     kinds: &[BlockKind; 2],
     block: usize,
@@ -231,6 +242,34 @@ fn quantise_one(
     quantise(transform, kind_of_block(kinds, block), out)
 }
 
+/// The same of a block whose coefficients lie from 0 at most so far; where that is less than the least that has a level it has
+/// none, and isn't looked at.
+#[inline(always)]
+fn quantise_reached(
+    transform: &[i32; 64],
+    kinds: &[BlockKind; 2],
+    block: usize,
+    most: u32,
+    least: u32,
+    out: &mut Levels,
+) -> bool
+    requires kinds { All IsKind kinds.now }
+    requires precision { All (λ kind. kind.precision ≡ 0) kinds.now }
+    requires coefficients { All IsCoefficient transform.now }
+    requires none { most < least → quantised transform.now
+        (kind_of (kind_at kinds.now 0) (kind_at kinds.now 1) block) ≡ replicate 64 (pos 0) }
+    ensures value { out.new.at
+        ≡ quantised transform.now (kind_of (kind_at kinds.now 0) (kind_at kinds.now 1) block) }
+    ensures levels { All IsLevel out.new.at }
+    ensures some { result ≡ not (is_empty out.new.at) }
+{
+    if most < least {
+        out.at = [0; 64];
+        return false;
+    }
+    quantise_one(transform, kinds, block, out)
+}
+
 /// The pattern with one block more, behind those that it holds.
 #[inline(always)]
 fn pattern_with(pattern: u8, some: bool) -> u8
@@ -240,15 +279,21 @@ fn pattern_with(pattern: u8, some: bool) -> u8
     if some { 2 * pattern + 1 } else { 2 * pattern }
 }
 
-/// The levels of the six blocks, by the kinds of luma and of chroma blocks, and their coded block pattern.
+/// The levels of the six blocks, by the kinds of luma and of chroma blocks, and their coded block pattern. The coefficients of
+/// each lie from 0 at most so far; a block where that is less than `least` has no level.
 pub fn quantise_blocks(
     transforms: &[[i32; 64]; 6],
     kinds: &[BlockKind; 2],
+    most: &[u32; 6],
+    least: u32,
     out: &mut [Levels; 6],
 ) -> u8
     requires kinds { All IsKind kinds.now }
     requires precision { All (λ kind. kind.precision ≡ 0) kinds.now }
     requires coefficients { All (All IsCoefficient) transforms.now }
+    requires none { (b : ℕ) → b < 6 → slice_index most.now b < least
+        → quantised (slice_index_or transforms.now b [])
+        (kind_of (kind_at kinds.now 0) (kind_at kinds.now 1) b) ≡ replicate 64 (pos 0) }
     ensures value { levels_of out.new
         ≡ quantised_by transforms.now (kind_at kinds.now 0) (kind_at kinds.now 1) }
     ensures levels { All (λ l. All IsLevel l.at) out.new }
@@ -257,7 +302,15 @@ pub fn quantise_blocks(
 {
     let mut pattern = 0;
     for block in 0..6usize {
-        let some = quantise_one(&transforms[block], kinds, block, &mut out[block]);
+        let far = most[block];
+        let some = quantise_reached(
+            &transforms[block],
+            kinds,
+            block,
+            far,
+            least,
+            &mut out[block],
+        );
         pattern = pattern_with(pattern, some);
     }
     pattern

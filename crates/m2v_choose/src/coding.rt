@@ -6,11 +6,11 @@ ghost use Rattle.m2v_macro.specs.Macros.{no_form as no_form_of};
 ghost use Rattle.m2v_choose.specs.Decisions.{Prediction, uncoded_syntax, intra_syntax as intra_syntax_of};
 ghost use Rattle.m2v_choose.specs.Candidates.{second_q as second_q_of, codings_at, codings, samples_by, coded_by, has_block, intra_by};
 ghost use Rattle.m2v_choose.specs.Own.{IsCode};
-ghost use Rattle.m2v_choose.specs.Trials.{References, decided, IsTask, IsRated, Tried, CanCode, has_types, AreSquares, IsMeasured, block_squared, coded_least, uncoded_squared, sends_code, with_blocks as with_blocks_of, transforms_of};
+ghost use Rattle.m2v_choose.specs.Trials.{References, decided, IsTask, IsRated, Tried, CanCode, has_types, AreSquares, IsMeasured, block_squared, coded_least, uncoded_squared, sends_code, with_blocks as with_blocks_of, transforms_of, AreFar};
 
-use crate::blocks::{quantise_blocks, reaches, transform, transform_by_fields};
-use crate::scratch::CodingScratch;
-use crate::squares::{least_blocks, part_squares, uncoded_squares};
+use crate::blocks::{farthest, quantise_blocks, reaches, transform, transform_by_fields};
+use crate::scratch::{BothTransforms, CodingScratch};
+use crate::squares::{least_blocks, part_squares_by_fields, uncoded_squares};
 use crate::task::Task;
 use crate::trial::{Best, are_bytes, bit_cost};
 use m2v_macro::{MacroSyntax, PictureContext};
@@ -35,13 +35,22 @@ pub struct Uncoded<'a> {
     pub field_least: u64,
 }
 
+/// The transforms of the six blocks by a DCT type.
+#[derive(Clone, Copy)]
+pub struct FarTransforms<'a> {
+    /// The transforms.
+    pub at: &'a [[i32; 64]; 6],
+    /// So far the coefficients of each lie from 0 at most.
+    pub most: &'a [u32; 6],
+}
+
 /// The transforms of the six blocks: by DCT type 0, and by DCT type 1 where the picture has it.
 #[derive(Clone, Copy)]
 pub struct Transforms<'a> {
     /// Those by DCT type 0.
-    pub frame: &'a [[i32; 64]; 6],
+    pub frame: FarTransforms<'a>,
     /// Those by DCT type 1.
-    pub field: &'a [[i32; 64]; 6],
+    pub field: FarTransforms<'a>,
 }
 
 /// Whether dct_type stands in the picture.
@@ -143,14 +152,28 @@ pub fn transform_fields(
     }
 }
 
+/// How far the coefficients by DCT type 1 lie from 0 at most, where the picture has it.
+#[inline(always)]
+fn farthest_fields(task: &Task, field: &[[i32; 64]; 6]) -> [u32; 6]
+    requires { has_types task.now.context.now ≡ true → All (All IsCoefficient) field.now }
+    ensures { has_types task.now.context.now ≡ true → AreFar field.now result }
+{
+    if has_dct_type(task.context) {
+        return farthest(field);
+    }
+    [0; 6]
+}
+
 /// The squares of the blocks of a prediction by DCT type 1, where the picture has it.
 #[inline(always)]
-pub fn field_squares(task: &Task, prediction: &Block16, out: &mut [u32; 6])
+pub fn field_squares(task: &Task, prediction: &Block16, frame: &[u32; 6], out: &mut [u32; 6])
+    requires frame { AreSquares false task.now.source.now.at prediction.now.at frame.now }
+    requires most { (b : ℕ) → b < 6 → slice_index frame.now b ≤ 4161600 }
     ensures { has_types task.now.context.now ≡ true
         → AreSquares true task.now.source.now.at prediction.now.at out.new }
 {
     if has_dct_type(task.context) {
-        part_squares(task.source, prediction, true, out);
+        part_squares_by_fields(task.source, prediction, frame, out);
     }
 }
 
@@ -238,7 +261,7 @@ impl Best {
         &mut self,
         task: &Task,
         plain: &Uncoded,
-        transforms: &[[i32; 64]; 6],
+        transforms: &FarTransforms,
         q: u8,
         dct_field: bool,
         room: &mut [Levels; 6],
@@ -248,11 +271,12 @@ impl Best {
         requires dct { dct_field ≡ true → has_types task.now.context.now ≡ true }
         requires bare { CanCode task.now plain.now.bare.now }
         requires measured { IsMeasured task.now plain.now }
-        requires coefficients { All (All IsCoefficient) transforms.now }
+        requires coefficients { All (All IsCoefficient) transforms.now.at.now }
+        requires far { AreFar transforms.now.at.now transforms.now.most.now }
         ensures tried { (r : References) (p : Prediction)
             → plain.now.bare.now ≡ uncoded_syntax (decided r task.now) p
             → plain.now.prediction.now.at ≡ samples_by (decided r task.now) p
-            → transforms.now
+            → transforms.now.at.now
             ≡ transforms_of task.now.source.now.at plain.now.prediction.now.at dct_field
             → IsRated (decided r task.now) self.old
             → Tried (decided r task.now) self.old self.new
@@ -263,11 +287,12 @@ impl Best {
             return;
         }
         // a coefficient that lies nearer to 0 has no level
-        if !reaches(transforms, 2 * u32::from(q)) {
+        let least = 2 * u32::from(q);
+        if !reaches(transforms.most, least) {
             return;
         }
         let kinds = kinds(task.context, false, q);
-        let pattern = quantise_blocks(transforms, &kinds, room);
+        let pattern = quantise_blocks(transforms.at, &kinds, transforms.most, least, room);
         if pattern == 0 {
             return;
         }
@@ -289,24 +314,27 @@ impl Best {
         requires q { IsCode q }
         requires bare { CanCode task.now plain.now.bare.now }
         requires measured { IsMeasured task.now plain.now }
-        requires frame { All (All IsCoefficient) transforms.now.frame.now }
+        requires frame { All (All IsCoefficient) transforms.now.frame.at.now }
         requires field { has_types task.now.context.now ≡ true
-            → All (All IsCoefficient) transforms.now.field.now }
+            → All (All IsCoefficient) transforms.now.field.at.now }
+        requires far { AreFar transforms.now.frame.at.now transforms.now.frame.most.now }
+        requires far_field { has_types task.now.context.now ≡ true
+            → AreFar transforms.now.field.at.now transforms.now.field.most.now }
         ensures tried { (r : References) (p : Prediction)
             → plain.now.bare.now ≡ uncoded_syntax (decided r task.now) p
             → plain.now.prediction.now.at ≡ samples_by (decided r task.now) p
-            → transforms.now.frame.now
+            → transforms.now.frame.at.now
             ≡ transforms_of task.now.source.now.at plain.now.prediction.now.at false
-            → (has_types task.now.context.now ≡ true → transforms.now.field.now
+            → (has_types task.now.context.now ≡ true → transforms.now.field.at.now
             ≡ transforms_of task.now.source.now.at plain.now.prediction.now.at true)
             → IsRated (decided r task.now) self.old
             → Tried (decided r task.now) self.old self.new
             (filter has_block (map (coded_by (decided r task.now) p)
             (codings_at (decided r task.now) q))) }
     {
-        self.try_coding(task, plain, transforms.frame, q, false, room);
+        self.try_coding(task, plain, &transforms.frame, q, false, room);
         if has_dct_type(task.context) {
-            self.try_coding(task, plain, transforms.field, q, true, room);
+            self.try_coding(task, plain, &transforms.field, q, true, room);
         }
     }
 
@@ -327,13 +355,24 @@ impl Best {
             return;
         }
         let CodingScratch {
-            frame,
-            field,
+            transforms: BothTransforms { frame, field },
             levels,
+            ..
         } = scratch;
+        let (frame, field) = (&mut frame.at, &mut field.at);
         transform(task.source, plain.prediction, false, frame);
         transform_fields(task, plain.prediction, frame, field);
-        let transforms = Transforms { frame, field };
+        let (far, far_field) = (farthest(frame), farthest_fields(task, field));
+        let transforms = Transforms {
+            frame: FarTransforms {
+                at: frame,
+                most: &far,
+            },
+            field: FarTransforms {
+                at: field,
+                most: &far_field,
+            },
+        };
         let q = task.limits.q;
         self.try_codings_at(task, plain, &transforms, q, levels);
         let second = second_q(q);

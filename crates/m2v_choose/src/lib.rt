@@ -9,6 +9,7 @@ mod intra;
 mod laws;
 mod motion;
 mod predictions;
+mod reached;
 mod scratch;
 mod squares;
 mod task;

@@ -207,8 +207,8 @@ impl Best {
             → Tried (decided r task.now) self.old self.new (by_prediction (decided r task.now) p) }
     {
         let (mut frame, mut field) = ([0; 6], [0; 6]);
-        part_squares(task.source, prediction, false, &mut frame);
-        field_squares(task, prediction, &mut field);
+        part_squares(task.source, prediction, &mut frame);
+        field_squares(task, prediction, &frame, &mut field);
         let Counted { alone, header } = count_alone(task, bare, uncoded);
         let plain = Uncoded {
             bare,

@@ -6,15 +6,33 @@ use m2v_pred::Block16;
 use m2v_quant::Levels;
 use m2v_search::SearchScratch;
 
+/// The transforms of a macroblock's blocks, as far as they are made.
+#[derive(Drop)]
+pub struct FirstTransforms {
+    /// Those of the first blocks are made.
+    pub at: [[i32; 64]; 6],
+    /// How many of them are.
+    pub count: usize,
+}
+
+/// The same by both DCT types.
+#[derive(Drop)]
+pub struct BothTransforms {
+    /// Those by DCT type 0.
+    pub frame: FirstTransforms,
+    /// Those by DCT type 1.
+    pub field: FirstTransforms,
+}
+
 /// Room for the blocks of a candidate.
 #[derive(Drop)]
 pub struct CodingScratch {
-    /// The transforms of its blocks by DCT type 0.
-    pub frame: [[i32; 64]; 6],
-    /// Those by DCT type 1.
-    pub field: [[i32; 64]; 6],
+    /// The transforms of its blocks.
+    pub transforms: BothTransforms,
     /// Its levels.
     pub levels: [Levels; 6],
+    /// Its samples, as they are rebuilt.
+    pub rebuilt: Block16,
 }
 
 /// Room for a candidate.
@@ -75,9 +93,18 @@ impl ChoiceScratch {
                     second: Block16 { at: [0; 384] },
                     ahead: Block16 { at: [0; 384] },
                     coding: CodingScratch {
-                        frame: [[0; 64]; 6],
-                        field: [[0; 64]; 6],
+                        transforms: BothTransforms {
+                            frame: FirstTransforms {
+                                at: [[0; 64]; 6],
+                                count: 0,
+                            },
+                            field: FirstTransforms {
+                                at: [[0; 64]; 6],
+                                count: 0,
+                            },
+                        },
                         levels: [none, none, none, none, none, none],
+                        rebuilt: Block16 { at: [0; 384] },
                     },
                 },
             },

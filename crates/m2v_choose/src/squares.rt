@@ -1,5 +1,5 @@
 //! Squares of differences of samples.
-ghost use Rattle.std.specs.Prelude.{◌≡◌, ℕ, ◌≤◌, ◌<◌, ◌+◌, ◌*◌, ◌^◌, cond, length, min, slice_index, sum_by};
+ghost use Rattle.std.specs.Prelude.{◌≡◌, ℕ, ◌≤◌, ◌<◌, ◌+◌, ◌-◌, true, false, ◌*◌, ◌^◌, cond, length, min, slice_index, sum_by};
 ghost use Rattle.std.specs.List.{range_with_len};
 ghost use Rattle.std.specs.Simd.Lanes.{sum_l};
 ghost use Rattle.m2v_kernel.specs.Sums.{apart};
@@ -74,7 +74,7 @@ fn total(x: u32x8) -> u32
 fn lines_squared(source: &Block16, samples: &Block16, dct_field: bool, block: usize) -> u32
     requires block { block < 6 }
     ensures value { result ≡ block_squared_of dct_field source.now.at samples.now.at block }
-    ensures most { result ≤ 8323200 }
+    ensures most { result ≤ 4161600 }
 {
     let mut sums = u32x8::splat(0);
     for line in 0..8 {
@@ -93,18 +93,55 @@ pub fn block_squared(source: &Block16, samples: &Block16, dct_field: bool, block
     lines_squared(source, samples, dct_field, block)
 }
 
-/// The squares of the six blocks of a prediction.
+/// The squares of the six blocks of a prediction, by DCT type 0.
 #[inline(never)]
-pub fn part_squares(source: &Block16, samples: &Block16, dct_field: bool, out: &mut [u32; 6])
-    ensures { AreSquares dct_field source.now.at samples.now.at out.new }
+pub fn part_squares(source: &Block16, samples: &Block16, out: &mut [u32; 6])
+    ensures value { AreSquares false source.now.at samples.now.at out.new }
+    ensures most { (b : ℕ) → b < 6 → slice_index out.new b ≤ 4161600 }
 {
     *out = [
-        lines_squared(source, samples, dct_field, 0),
-        lines_squared(source, samples, dct_field, 1),
-        lines_squared(source, samples, dct_field, 2),
-        lines_squared(source, samples, dct_field, 3),
-        lines_squared(source, samples, dct_field, 4),
-        lines_squared(source, samples, dct_field, 5),
+        lines_squared(source, samples, false, 0),
+        lines_squared(source, samples, false, 1),
+        lines_squared(source, samples, false, 2),
+        lines_squared(source, samples, false, 3),
+        lines_squared(source, samples, false, 4),
+        lines_squared(source, samples, false, 5),
+    ];
+}
+
+/// The squares of two blocks less those of one of two others that have the same lines.
+#[inline(always)]
+fn other_lines(upper: u32, lower: u32, first: u32) -> u32
+    requires upper { upper ≤ 4161600 }
+    requires lower { lower ≤ 4161600 }
+    requires first { first ≤ upper + lower }
+    ensures { result ≡ upper + lower - first }
+{
+    upper + lower - first
+}
+
+/// The squares of the six blocks of a prediction by DCT type 1, behind those by DCT type 0: two blocks one above the other have the
+/// same lines by either, and chroma blocks are the same.
+#[inline(never)]
+pub fn part_squares_by_fields(
+    source: &Block16,
+    samples: &Block16,
+    frame: &[u32; 6],
+    out: &mut [u32; 6],
+)
+    requires frame { AreSquares false source.now.at samples.now.at frame.now }
+    requires most { (b : ℕ) → b < 6 → slice_index frame.now b ≤ 4161600 }
+    ensures { AreSquares true source.now.at samples.now.at out.new }
+{
+    let left = lines_squared(source, samples, true, 0);
+    let right = lines_squared(source, samples, true, 1);
+    *out = [
+        left,
+        right,
+        other_lines(frame[0], frame[2], left),
+        other_lines(frame[1], frame[3], right),
+        frame[4],
+        frame[5],
     ];
 }
 

@@ -143,7 +143,7 @@ fn single(block: u32) -> u8
 /// The squares of one coded block: of its source less its samples as they are rebuilt. They are written over those of its
 /// prediction, and no other block is touched.
 #[inline(always)]
-fn rebuilt_block(
+pub fn rebuilt_block(
     source: &Block16,
     syntax: &MacroSyntax,
     levels: &[Levels; 6],
@@ -378,6 +378,37 @@ impl Best {
         let score = 8 * u64::from(squares) + cost;
         if score < self.below {
             self.take(syntax, levels, bits, score);
+        }
+    }
+
+    /// Tries a written candidate that is rebuilt: its bits and its squares are known, and its samples.
+    pub fn try_rebuilt(
+        &mut self,
+        task: &Task,
+        syntax: &MacroSyntax,
+        levels: &[Levels; 6],
+        bits: u32,
+        squares: u32,
+        rebuilt: &Block16,
+    )
+        requires task { IsTask task.now }
+        requires bits { (r : References) → bits
+            ≡ bits_taken (decided r task.now) (written syntax.now (levels_of levels.now)) }
+        requires squares { squares ≡ squared_of task.now.source.now.at rebuilt.now.at }
+        ensures tried { (r : References) (prediction : List ℕ)
+            → Predicts r task.now syntax.now prediction
+            → rebuilt.now.at ≡ rebuilt_by task.now prediction (macroblock_of syntax.now levels.now)
+            → IsRated (decided r task.now) self.old
+            → Tried (decided r task.now) self.old self.new
+            (written syntax.now (levels_of levels.now) ∷ []) }
+    {
+        if !fits(task.limits, bits) {
+            return;
+        }
+        let score = 8 * u64::from(squares) + bit_cost(task.limits, bits);
+        if score < self.below {
+            self.take(syntax, levels, bits, score);
+            self.choice.samples = *rebuilt;
         }
     }
 

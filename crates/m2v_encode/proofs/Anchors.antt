@@ -92,6 +92,27 @@ kept_all b h o n is all =
     ∙ cond-true (nat_lt there.frame n) _ _ (lt-ltb there.frame n (omega (arith, there.below, all)))
     ∙ ap (frame_or b.before b (all_coded b)) (sym there.is)
 
+-- the last anchor's frame is one of the group
+pub anchor_below : (b : Book) → IsBook b → (o : Option ℕ) (k : ℕ) → o ≡ anchor_frame None b.pictures → o ≡ Some k → k < length b.frames
+anchor_below b h o k is here =
+    let there = anchor_is b h in
+    let same : k ≡ there.frame = some_is k there.frame (sym here ∙ is ∙ there.is) in
+    omega (arith, same, there.below)
+  where
+    some_is : (k n : ℕ) → Some k ≡ Some n → k ≡ n
+    some_is k n e = cc
+
+-- which is there
+pub anchor_there : (b : Book) → IsBook b → (o : Option ℕ) → o ≡ anchor_frame None b.pictures → o ≡ None → ⊥
+anchor_there b h o is none = never (anchor_is b h).frame (sym none ∙ is ∙ (anchor_is b h).is)
+  where
+    never : (k : ℕ) → None ≡ Some k → ⊥
+    never k e = absurd cc
+
+pub anchor_made : (b : Book) (o : Option ℕ) (k : ℕ) (f : Samples) → o ≡ anchor_frame None b.pictures → o ≡ Some k → f ≡ frame_of b (all_coded b) k → Some f ≡ anchor_behind b
+unfolding frame_or
+anchor_made b o k f is here made = ap Some made ∙ ap (frame_or b.before b (all_coded b)) (sym here ∙ is)
+
 -- ---- raw frames
 
 pub shown_more : (b : Book) (n : ℕ) → raw (frames_shown b (n + 1)) ≡ raw (frames_shown b n) ++ crop (frame_of b (all_coded b) n)

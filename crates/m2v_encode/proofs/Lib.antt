@@ -16,4 +16,3 @@ pub mod Loop
 pub mod WithoutRecon
 pub use Rattle.m2v_law_shown.proofs.m2v_enc_stream
 pub use Rattle.m2v_law_shown.proofs as m2v_law_shown
-pub use Rattle.m2v_law_shown.proofs.m2v_law_tree

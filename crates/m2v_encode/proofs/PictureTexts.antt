@@ -17,7 +17,7 @@ use Rattle.m2v_slice.specs.Books.{Book, rows, job_at, picture_at, slice_at}
 use Rattle.m2v_slice.specs.Conditions.{IsBook}
 use Rattle.m2v_slice.proofs.Coded.{slice_is}
 use Rattle.m2v_slice.proofs.Slices.{is_job}
-use Rattle.m2v_law_shown.proofs.m2v_law_tree.Zeros.{packed_zeros}
+use Rattle.m2v_law_shown.proofs.m2v_enc_stream.Zeros.{packed_zeros}
 use Rattle.m2v_law_shown.specs.m2v_enc_stream.Streams.{zeros_of, delay_at, picture_text}
 use Rattle.m2v_encode.specs.Groups.{all_coded, slices_text}
 use Rattle.m2v_encode.proofs.Pieces.{slices_by}

@@ -1,5 +1,6 @@
 -- What holds of a recon that keeps nothing holds where there is none.
-use Rattle.std.proofs.Common.{ℕ, ◌⊎◌, inl, inr, List, ◌∷◌, [], Option, None, refl}
+use Rattle.std.proofs.Common.{ℕ, ◌≡◌, ◌++◌, ◌⊎◌, inl, inr, List, ◌∷◌, [], Option, None, refl, sym, ap, subst, ◌∙◌}
+use Rattle.std.specs.Option.{option_map}
 use Rattle.m2v_port.specs.Ends.{Change}
 use Rattle.m2v_port.specs.Port.{Grows, GrowsByPrefix}
 use Rattle.m2v_set.specs.declared.settings.Settings.{Settings}
@@ -10,6 +11,14 @@ use Rattle.m2v_encode.specs.Answers.{AllCoded, Unended, CutOff, Stops, unshown}
 
 grows_none : (bytes : List ℕ) → (let none : Option (List ℕ) = None in Grows none bytes none)
 grows_none bytes = record { is = refl }
+
+-- what tells nothing grows by any bytes
+pub grows_untold : (o : Option (List ℕ)) (bytes : List ℕ) → o ≡ None → Grows o bytes o
+grows_untold o bytes none = subst (λ (x : Option (List ℕ)). Grows x bytes x) (sym none) (grows_none bytes)
+
+-- and goes on to tell nothing
+pub still_untold : (o new : Option (List ℕ)) (bytes : List ℕ) → o ≡ None → Grows o bytes new → new ≡ None
+still_untold o new bytes none grown = grown.is ∙ ap (option_map (λ held. held ++ bytes)) none
 
 cut_none : (bytes : List ℕ) → (let none : Option (List ℕ) = None in GrowsByPrefix none bytes none)
 cut_none bytes = record { part = []; rest = bytes; split = refl; grown = grows_none [] }

@@ -5,4 +5,3 @@ pub mod Rebuilt
 pub mod Steps
 pub use Rattle.m2v_law_shown.specs.m2v_enc_stream
 pub use Rattle.m2v_law_shown.specs as m2v_law_shown
-pub use Rattle.m2v_law_shown.specs.m2v_law_tree

@@ -119,6 +119,7 @@ impl Coder {
     fn code_due<R: Threads + Wait + Sync, K: Sink, N: Sink, G: Gate + Sync>(
         &mut self,
         crew: &Crew<R, G>,
+        shown: bool,
         queue: &mut Reorder,
         output: &mut K,
         recon: &mut N,
@@ -131,6 +132,7 @@ impl Coder {
         requires sound { IsSoundQueue queue.old }
         requires output { IsTrue (K.ready output.old) }
         requires recon { IsTrue (N.ready recon.old) }
+        requires unshown { shown ≡ false → N.held recon.old ≡ None }
         ensures coded { OnOk result (DueCoded self.old self.new queue.old queue.new
             (change K.held K.faults output.old output.new)
             (change N.held N.faults recon.old recon.new)) }
@@ -146,7 +148,7 @@ impl Coder {
         ensures recon { SinkStays N.ready N.name N.faults recon.old recon.new }
     {
         match queue.next_group(crew.alloc) {
-            Ok(Some(group)) => self.code_group(crew, group, false, output, recon),
+            Ok(Some(group)) => self.code_group(crew, shown, group, false, output, recon),
             Ok(None) => Ok(()),
             Err(_) => Err(EncodeError::Memory),
         }
@@ -156,6 +158,7 @@ impl Coder {
     fn finish<R: Threads + Wait + Sync, K: Sink, N: Sink, G: Gate + Sync>(
         &mut self,
         crew: &Crew<R, G>,
+        shown: bool,
         queue: &mut Reorder,
         output: &mut K,
         recon: &mut N,
@@ -168,6 +171,7 @@ impl Coder {
         requires sound { IsSoundQueue queue.old }
         requires output { IsTrue (K.ready output.old) }
         requires recon { IsTrue (N.ready recon.old) }
+        requires unshown { shown ≡ false → N.held recon.old ≡ None }
         ensures some { OnOk result (is_due (after_end queue.old) ≡ true) }
         ensures coded { IfOk result
             (EndCoded self.old (book_by self.old (group_of (after_end queue.old)))
@@ -182,7 +186,7 @@ impl Coder {
         queue.end();
         match queue.next_group(crew.alloc) {
             Ok(Some(group)) => {
-                self.code_group(crew, group, true, output, recon)?;
+                self.code_group(crew, shown, group, true, output, recon)?;
                 put_bytes(&END, output)?;
                 self.total.bytes += 4;
                 Ok(self.total)
@@ -196,6 +200,7 @@ impl Coder {
     fn code_all<R: Threads + Wait + Sync, S: Source, K: Sink, N: Sink, G: Gate + Sync>(
         &mut self,
         crew: &Crew<R, G>,
+        shown: bool,
         queue: &mut Reorder,
         input: &mut S,
         output: &mut K,
@@ -213,6 +218,7 @@ impl Coder {
         requires queue { queue.old ≡ opening self.old.settings }
         requires output { IsTrue (K.ready output.old) }
         requires recon { IsTrue (N.ready recon.old) }
+        requires unshown { shown ≡ false → N.held recon.old ≡ None }
         ensures ok { IfOk result (AllCoded self.old.settings
             (change S.left S.faults input.old input.new)
             (change K.held K.faults output.old output.new)
@@ -231,30 +237,31 @@ impl Coder {
         let _known = self.settings.settings();
         for _number in 0..MOST {
             if !self.next_frame(crew.alloc, input, queue)? {
-                return self.finish(crew, queue, output, recon);
+                return self.finish(crew, shown, queue, output, recon);
             }
-            self.code_due(crew, queue, output, recon)?;
+            self.code_due(crew, shown, queue, output, recon)?;
         }
         if goes_on(input)? {
             return Err(EncodeError::TooManyFrames);
         }
-        self.finish(crew, queue, output, recon)
+        self.finish(crew, shown, queue, output, recon)
     }
 }
 
 /// Codes the frames of a raw input, up to 999,999 of them, with settings that passed; the stream goes to output, and the
-/// frames that a decoder makes of it go to recon, in display order.
+/// frames that a decoder makes of it go to recon, in display order, where they are shown; where they aren't, recon tells
+/// nothing.
 pub(crate) fn encode_to<R: Threads + Wait + Sync, S: Source, K: Sink, N: Sink, G: Gate + Sync>(
-    rt: &R,
-    alloc: Global,
+    crew: &Crew<R, G>,
+    shown: bool,
     settings: &Passed,
     input: &mut S,
     output: &mut K,
     recon: &mut N,
-    gate: &G,
 ) -> Result<Summary, EncodeError>
     requires output { IsTrue (K.ready output.old) }
     requires recon { IsTrue (N.ready recon.old) }
+    requires unshown { shown ≡ false → N.held recon.old ≡ None }
     // All frames of the input were coded.
     ensures ok { IfOk result (AllCoded settings.now
         (change S.left S.faults input.old input.new)
@@ -273,12 +280,11 @@ pub(crate) fn encode_to<R: Threads + Wait + Sync, S: Source, K: Sink, N: Sink, G
 {
     // the settings pass, so a frame has bytes
     let _known = settings.settings();
-    let Ok(mut coder) = Coder::new(alloc, settings) else {
+    let Ok(mut coder) = Coder::new(crew.alloc, settings) else {
         return Err(EncodeError::Memory);
     };
-    let Ok(mut queue) = Reorder::new(alloc, settings) else {
+    let Ok(mut queue) = Reorder::new(crew.alloc, settings) else {
         return Err(EncodeError::Memory);
     };
-    let crew = Crew { rt, alloc, gate };
-    coder.code_all(&crew, &mut queue, input, output, recon)
+    coder.code_all(crew, shown, &mut queue, input, output, recon)
 }

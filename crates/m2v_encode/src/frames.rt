@@ -91,7 +91,7 @@ impl DoneGroup {
     }
 
     /// Writes all frames of the group in display order, as raw frames by way of one buffer, and gives that of the last anchor.
-    pub(crate) fn put_frames<K: Sink>(
+    fn put_frames<K: Sink>(
         &self,
         alloc: Global,
         buffer: &mut [u8],
@@ -119,5 +119,44 @@ impl DoneGroup {
             anchor = anchor_with(last, k, frame, anchor);
         }
         Ok(anchor)
+    }
+
+    /// The frame of the last anchor.
+    fn anchor(&self, alloc: Global) -> Result<Option<Frame>, Memory>
+        ensures value { IfOk result (λ f. f ≡ anchor_behind self.now) }
+    {
+        // the first picture of a book is an anchor
+        let _book = self.pictures();
+        match self.last_anchor() {
+            Some(k) => Ok(Some(self.rebuilt(alloc, k)?)),
+            None => Ok(None),
+        }
+    }
+
+    /// As [`put_frames`](DoneGroup::put_frames) where frames are shown. Where none is, that of the last anchor alone is made.
+    pub(crate) fn put_shown<K: Sink>(
+        &self,
+        alloc: Global,
+        shown: bool,
+        buffer: &mut [u8],
+        recon: &mut K,
+    ) -> Result<Option<Frame>, EncodeError>
+        requires buffer { length buffer.old ≡ frame_bytes (dims_of self.now.settings) }
+        requires recon { IsTrue (K.ready recon.old) }
+        requires unshown { shown ≡ false → K.held recon.old ≡ None }
+        ensures grown { OnOk result (Grows (K.held recon.old) (raw (group_shown self.now))
+            (K.held recon.new)) }
+        ensures anchor { IfOk result (λ f. f ≡ anchor_behind self.now) }
+        ensures err { IfErr result (PutStops (raw (group_shown self.now))
+            (change K.held K.faults recon.old recon.new)) }
+        ensures recon { SinkStays K.ready K.name K.faults recon.old recon.new }
+    {
+        if shown {
+            return self.put_frames(alloc, buffer, recon);
+        }
+        match self.anchor(alloc) {
+            Ok(frame) => Ok(frame),
+            Err(_) => Err(EncodeError::Memory),
+        }
     }
 }

@@ -187,11 +187,12 @@ impl Coder {
         })
     }
 
-    /// Codes a group of the settings, and writes its bytes to output and its frames to recon. `ends` tells that it is the
-    /// last one of the stream.
+    /// Codes a group of the settings, and writes its bytes to output and its frames, where they are shown, to recon. `ends`
+    /// tells that it is the last one of the stream.
     pub(crate) fn code_group<R: Threads + Wait + Sync, K: Sink, N: Sink, G: Gate + Sync>(
         &mut self,
         crew: &Crew<R, G>,
+        shown: bool,
         group: GroupJobs,
         ends: bool,
         output: &mut K,
@@ -206,6 +207,7 @@ impl Coder {
         requires early { All (λ (j : PictureJob). j.display < 1000000) group.pictures.items }
         requires output { IsTrue (K.ready output.old) }
         requires recon { IsTrue (N.ready recon.old) }
+        requires unshown { shown ≡ false → N.held recon.old ≡ None }
         ensures coded { OnOk result (GroupCoded self.old self.new (book_by self.old (handed group))
             ends
             (change K.held K.faults output.old output.new)
@@ -234,7 +236,7 @@ impl Coder {
             &mut self.total,
             output,
         )?;
-        self.before = done.put_frames(crew.alloc, &mut self.raw, recon)?;
+        self.before = done.put_shown(crew.alloc, shown, &mut self.raw, recon)?;
         Ok(())
     }
 }

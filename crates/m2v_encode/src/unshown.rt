@@ -5,6 +5,7 @@ ghost use Rattle.m2v_encode.specs.Answers.{AllCoded, Stops, unshown};
 
 use crate::answer::{EncodeError, Summary};
 use crate::coding::encode_to;
+use crate::crew::Crew;
 use m2v_board::Gate;
 use m2v_port::{PortError, Sink, Source};
 use m2v_set::Passed;
@@ -54,5 +55,6 @@ pub(crate) fn encode_unshown<R: Threads + Wait + Sync, S: Source, K: Sink, G: Ga
     ensures lenders { S.lenders input.new ≡ S.lenders input.old }
 {
     let mut recon = Unshown;
-    encode_to(rt, alloc, settings, input, output, &mut recon, gate)
+    let crew = Crew { rt, alloc, gate };
+    encode_to(&crew, false, settings, input, output, &mut recon)
 }

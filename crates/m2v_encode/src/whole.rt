@@ -6,6 +6,7 @@ ghost use Rattle.m2v_encode.specs.Places.{Beside, PlaceStays};
 
 use crate::answer::{EncodeError, Summary};
 use crate::coding::encode_to;
+use crate::crew::Crew;
 use crate::unshown::encode_unshown;
 use m2v_board::Gate;
 use m2v_port::{NamedSink, Sink, Source};
@@ -44,7 +45,10 @@ pub fn encode<R: Threads + Wait + Sync, S: Source, K: Sink, N: NamedSink, G: Gat
     ensures lenders { S.lenders input.new ≡ S.lenders input.old }
 {
     match recon {
-        Some(place) => encode_to(rt, alloc, settings, input, output, place, gate),
+        Some(place) => {
+            let crew = Crew { rt, alloc, gate };
+            encode_to(&crew, true, settings, input, output, place)
+        }
         None => encode_unshown(rt, alloc, settings, input, output, gate),
     }
 }

@@ -1,10 +1,10 @@
 -- Bits that tell which bounds lie below a limit: what is known of those that are 0.
-use Rattle.std.proofs.Common.{◌≡◌, ℕ, ◌+◌, ◌-◌, ◌/◌, ◌%◌, ◌^◌, ◌<◌, ◌≤◌, Bool, true, false, List, map, take, replicate, length, get_or, refl, sym, ap, ◌∙◌, arith, w16, w64, inl, inr}
+use Rattle.std.proofs.Common.{◌≡◌, ◌≢◌, ℕ, ◌+◌, ◌-◌, ◌*◌, ◌%◌, ◌^◌, ◌<◌, ◌≤◌, Bool, true, false, List, map, take, replicate, length, get_or, refl, sym, ap, ◌∙◌, arith, w16, w64, inl, inr}
 use Rattle.std.specs.Prelude.{cond, min}
-use Rattle.std.specs.Int.{bit_at, trailing_zeros}
-use Rattle.std.proofs.Math.Nat.{div-div-eq-div-mul, zero-div}
-use Rattle.std.proofs.lemmas.Nat.{pow-add}
-use Rattle.std.proofs.lemmas.Nat.Bits.{bit_at-trailing_zeros, bit_at-zero}
+use Rattle.std.specs.Int.{bit_at, bit_not, trailing_zeros}
+use Rattle.std.specs.Int.Bits.{bit_and}
+use Rattle.std.proofs.lemmas.Nat.{one_shl, pow_below}
+use Rattle.std.proofs.lemmas.Nat.Bits.{bit_at_and, bit_at_not, bit_at_ones, bit_at_ones_above, bit_at-trailing_zeros, bit_at-zero}
 use Rattle.std.proofs.lemmas.Bool.{lt-ltb, cases_lt}
 use Rattle.std.proofs.lemmas.List.{get_or-map, length-map, take_all}
 use Rattle.std.proofs.lemmas.Simd.{zip2_splat, map-map, mask_l-mod, bit_mask_l}
@@ -12,27 +12,46 @@ use lib.Lanes.{zip2, mask_l, top}
 use borrow.Rule.Simd.Lanes.{act2}
 use borrow.Table.Row.{s_int}
 use mir.Syntax.{mask, lt, unsigned}
-use Rattle.m2v_search.specs.declared.marks.Marks.{Marks}
 use Rattle.m2v_search.specs.Bounds.{TellBelow}
 
-pub shifted : (n r k : ℕ) → bit_at (n / 2 ^ r) k ≡ bit_at n (r + k)
-shifted n r k = ap (λ (m : ℕ). m % 2) (div-div-eq-div-mul n (2 ^ r) (2 ^ k) ∙ ap (λ (m : ℕ). n / m) (sym (pow-add 2 r k)))
+-- a bit behind a mask of those from a column on
+bit_kept : (bits at cover k : ℕ) → at < 64 → cover ≡ (1 * 2 ^ at) % 2 ^ 64 - 1 → k < 64 → bit_at (bit_and bits (bit_not w64 cover)) k ≡ min (bit_at bits k) (1 - bit_at (2 ^ at - 1) k)
+bit_kept bits at cover k few is low =
+    let ones : cover ≡ 2 ^ at - 1 = omega (arith, is, one_shl at 64 few) in
+    let fits : cover < 2 ^ 64 = omega (arith, ones, pow_below at 64 few) in
+    bit_at_and bits (bit_not w64 cover) k
+    ∙ ap (min (bit_at bits k)) (bit_at_not w64 cover k fits low ∙ ap (λ (m : ℕ). 1 - bit_at m k) ones)
 
--- the bits behind a place tell of the bounds behind it
-pub tell_on : (bounds : ℕ → ℕ) (limit : ℕ) (m n : Marks) → TellBelow bounds limit m → m.at ≤ n.at → n.bits ≡ m.bits / 2 ^ (n.at - m.at) → TellBelow bounds limit n
-tell_on bounds limit m n tell le is = record {
-  passed = λ k few zero_.
-      let place : m.at + (n.at - m.at + k) ≡ n.at + k = omega arith in
-      let bit : bit_at m.bits (n.at - m.at + k) ≡ 0 = sym (shifted m.bits (n.at - m.at) k) ∙ ap (λ b. bit_at b k) (sym is) ∙ zero_ in
-      omega (arith, tell.passed (n.at - m.at + k) (omega arith) bit, ap bounds place);
+-- so such bits tell
+pub told_from : (bounds : ℕ → ℕ) (limit at bits cover : ℕ) → at ≤ 32 → cover ≡ (1 * 2 ^ at) % 2 ^ 64 - 1 → ((k : ℕ) → k < 32 → bit_at bits k ≡ 0 → limit ≤ bounds k)
+    → TellBelow bounds limit at (bit_and bits (bit_not w64 cover))
+told_from bounds limit at bits cover few is all = record {
+  before = λ k under. omega (arith, bit_kept bits at cover k (omega arith) is (omega arith), bit_at_ones at k under);
+  passed = λ k from low none. all k low (omega (arith, bit_kept bits at cover k (omega arith) is (omega arith), bit_at_ones_above at k from, none));
 }
 
--- the bounds of places that are passed over
-pub bound_told : (bounds : ℕ → ℕ) (limit : ℕ) (m : Marks) (end : ℕ) → TellBelow bounds limit m → end ≤ 32 → ((k : ℕ) → m.at + k < end → bit_at m.bits k ≡ 0)
-    → (k : ℕ) → m.at ≤ k → k < end → limit ≤ bounds k
-bound_told bounds limit m end tell few none k from to =
-    let place : m.at + (k - m.at) ≡ k = omega arith in
-    omega (arith, tell.passed (k - m.at) (omega arith) (none (k - m.at) (omega arith)), ap bounds place)
+module _ {bounds : ℕ → ℕ} {limit column bits : ℕ} where
+  -- the first bit that is 1 doesn't stand before the column
+  pub first_behind : TellBelow bounds limit column bits → (x : ℕ) → column ≤ 64 → (x < 64 → bit_at bits x ≡ 1) → column ≤ x
+  first_behind tell x few some = elim (cases_lt x column) [
+    | inl under ↦ absurd (omega (arith, tell.before x under, some (omega arith)))
+    | inr le ↦ le
+  ]
+
+  -- and they tell of the bounds from there on
+  pub tell_on : TellBelow bounds limit column bits → (x : ℕ) → column ≤ x → ((k : ℕ) → k < x → bit_at bits k ≡ 0) → TellBelow bounds limit x bits
+  tell_on tell x le none = record { before = none; passed = λ k from. tell.passed k (omega arith) }
+
+  -- without the first of them they tell of the bounds behind it
+  pub tell_without : TellBelow bounds limit column bits → (less : ℕ) → column < 32 → bit_at less column ≡ 0
+      → ((k : ℕ) → k < 64 → k ≢ column → bit_at less k ≡ bit_at bits k) → TellBelow bounds limit (column + 1) less
+  tell_without tell less few gone others = record {
+    before = λ k under. elim (cases_lt k column) [
+      | inl below ↦ others k (omega arith) (λ e. omega (arith, e)) ∙ tell.before k below
+      | inr le ↦ let here : k ≡ column = omega arith in ap (bit_at less) here ∙ gone
+    ];
+    passed = λ k from low none. tell.passed k (omega arith) low (sym (others k (omega arith) (λ e. omega (arith, e))) ∙ none);
+  }
 
 -- one lane
 abbrev LT : ℕ → ℕ → ℕ
@@ -68,18 +87,13 @@ none_before bits k fits below = elim (cases_lt 0 bits) [
   | inr zero_ ↦ let e : bits ≡ 0 = omega arith in ap (λ n. bit_at n k) e ∙ bit_at-zero k
 ]
 
--- a shift by as many places as bits have is one by none: no bit is set then
-pub bits_behind : (bits at : ℕ) → bits < 2 ^ 64 → bits / 2 ^ (trailing_zeros w64 bits % 64) ≡ bits / 2 ^ (at + trailing_zeros w64 bits - at)
-bits_behind bits at fits =
-    let t = trailing_zeros w64 bits in
-    let there : t ≡ at + t - at = omega arith in
-    elim (cases_lt 0 bits) [
-      | inl some ↦
-          let low : t < 64 = (bit_at-trailing_zeros w64 bits some fits).0 in
-          let same : t % 64 ≡ at + t - at = omega arith in
-          ap (λ (n : ℕ). bits / 2 ^ n) same
-      | inr zero_ ↦
-          let e : bits ≡ 0 = omega arith in
-          ap (λ (n : ℕ). n / 2 ^ (t % 64)) e ∙ zero-div (2 ^ (t % 64))
-          ∙ sym (ap (λ (n : ℕ). n / 2 ^ (at + t - at)) e ∙ zero-div (2 ^ (at + t - at)))
-    ]
+-- it is, if it stands at a place that bits have
+pub some_first : (bits : ℕ) → bits < 2 ^ 64 → trailing_zeros w64 bits < 64 → bit_at bits (trailing_zeros w64 bits) ≡ 1
+unfolding lib.Count.count_trailing_zeros
+some_first bits fits few = elim (cases_lt 0 bits) [
+  | inl some ↦ (bit_at-trailing_zeros w64 bits some fits).1
+  | inr zero_ ↦
+      let e : bits ≡ 0 = omega arith in
+      let far : trailing_zeros w64 bits ≡ 64 = ap (trailing_zeros w64) e in
+      absurd (omega (arith, far, few))
+]

@@ -4,12 +4,10 @@ use Rattle.std.specs.Prelude.{slice_index}
 use Rattle.m2v_plane.specs.declared.dims.Dims.{Dims}
 use Rattle.m2v_plane.specs.declared.planes.Lines.{Lines}
 use Rattle.m2v_search.specs.declared.form.BlockLines.{BlockLines}
-use Rattle.m2v_search.specs.declared.form.SearchForm.TheVariants.{FieldLines}
 use Rattle.m2v_search.specs.declared.scratch.Surroundings.{Surroundings}
 use Rattle.m2v_search.specs.declared.spot.Area.{Area}
 use Rattle.m2v_search.specs.declared.spot.Span.{Span}
 use Rattle.m2v_search.specs.Bounds.{AreSumsFor}
-use Rattle.m2v_search.specs.Search.{block_lines, reach}
 use Rattle.m2v_search.specs.Spots.{IsWindow, area_in, span_of}
 use Rattle.m2v_search.specs.Surveys.{IsSurvey, lines_near}
 
@@ -47,9 +45,3 @@ module _ {d t : Dims} {at : Lines → ℕ → ℕ → ℕ} {b l : BlockLines} {c
     sums = subst (λ (x : BlockLines). HasSums x (lines_near d b column down) s) lines
         (subst (λ (x : Span). HasSums l x s) (near_is d t b l column down far a lines dims area is) sums);
   }
-
--- what was surveyed in a field for the lines of one field of the macroblock serves those of the other one
-pub for_field : (d : Dims) (at : Lines → ℕ → ℕ → ℕ) (row column search : ℕ) (one other reference : Lines) (s : Surroundings)
-    → IsSurvey d at (block_lines (FieldLines one reference) row) column (reach (FieldLines one reference) search) s
-    → IsSurvey d at (block_lines (FieldLines other reference) row) column (reach (FieldLines other reference) search) s
-for_field d at row column search one other reference s h = record { window = record { samples = h.window.samples }; sums = h.sums }

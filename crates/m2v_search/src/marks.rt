@@ -1,18 +1,9 @@
-//! Bits that tell at which places of a line a bound lies below a limit.
-ghost use Rattle.std.specs.Prelude.{ℕ, ◌≡◌, ◌+◌, ◌-◌, ◌/◌, ◌^◌, ◌≤◌, ◌<◌, slice_index};
+//! Bits that tell at which columns of a line a bound lies below a limit.
+ghost use Rattle.std.specs.Prelude.{ℕ, ◌≡◌, ◌≢◌, ◌≤◌, ◌<◌, slice_index};
 ghost use Rattle.std.specs.Int.{bit_at};
 ghost use Rattle.m2v_search.specs.Bounds.{TellBelow};
 
 use std::simd::prelude::*;
-
-/// Bits for the places of a line from a column on, the lowest one for that column.
-#[derive(Clone, Copy)]
-pub struct Marks {
-    /// The column.
-    pub at: u32,
-    /// The bits.
-    pub bits: u64,
-}
 
 /// One bit a bound, the lowest for the first one: 1 where it lies below a limit.
 #[inline(always)]
@@ -26,28 +17,31 @@ fn bits_below(bounds: &[u16; 32], limit: u32) -> u64
         .to_bitmask()
 }
 
-/// The bits from a column on.
+/// The same bits from a column on, and none before it.
 #[inline(always)]
 pub fn bits_from(bounds: &[u16; 32], limit: u32, at: u32) -> u64
     requires most { (k : ℕ) → k < 32 → slice_index bounds.now k ≤ 65280 }
     requires at { at ≤ 32 }
-    ensures { TellBelow (slice_index bounds.now) limit (record { at = at; bits = result }) }
+    ensures { TellBelow (slice_index bounds.now) limit at result }
 {
-    bits_below(bounds, limit) >> at
+    bits_below(bounds, limit) & !((1 << at) - 1)
 }
 
-/// Of the bits from a column on, those from the first one that is 1: far behind all columns where none is.
+/// The first column that has a bit which is 1: far behind all columns where none has.
 #[inline(always)]
-pub fn next_mark(at: u32, bits: u64) -> Marks
-    requires at { at ≤ 32 }
-    ensures least { at ≤ result.at }
-    ensures most { result.at ≤ 96 }
-    ensures none { (k : ℕ) → at + k < result.at → bit_at bits k ≡ 0 }
-    ensures bits { result.bits ≡ bits / 2 ^ (result.at - at) }
+pub fn first_mark(left: u64) -> u32
+    ensures none { (k : ℕ) → k < result → bit_at left k ≡ 0 }
+    ensures some { result < 64 → bit_at left result ≡ 1 }
 {
-    let none = bits.trailing_zeros();
-    Marks {
-        at: at + none,
-        bits: bits >> (none % 64),
-    }
+    left.trailing_zeros()
+}
+
+/// The bits that are left without one of them.
+#[inline(always)]
+pub fn without(left: u64, at: u32) -> u64
+    requires at { at < 64 }
+    ensures gone { bit_at result at ≡ 0 }
+    ensures others { (k : ℕ) → k < 64 → k ≢ at → bit_at result k ≡ bit_at left k }
+{
+    left & !(1 << at)
 }

@@ -8,7 +8,7 @@ ghost use Rattle.m2v_search.specs.Bounds.{cut, AreSumsFor, IsEnough};
 
 use crate::difference::spot_sad_until;
 use crate::far::line_bounds;
-use crate::marks::{bits_from, next_mark};
+use crate::marks::{bits_from, first_mark, without};
 use crate::parts::block_parts;
 use crate::scratch::{Likely, Surroundings};
 use crate::spot::{Best, Places, Span, Spot};
@@ -110,22 +110,23 @@ fn passed_line(
     ensures below { result.below ≡ min result.best.sad limit }
 {
     let mut so_far = so_far;
-    let first = row.columns.first;
-    let bits = bits_from(bounds, so_far.below, first);
-    let mut marks = next_mark(first, bits);
-    while marks.at < row.columns.end {
+    let mut left = bits_from(bounds, so_far.below, row.columns.first);
+    let mut x = first_mark(left);
+    while x < row.columns.end {
         let spot = Spot {
             y: 2 * row.y,
-            x: 2 * marks.at,
+            x: 2 * x,
         };
         so_far = tried_below(block, count, window, so_far, spot, limit);
-        marks = next_mark(marks.at + 1, marks.bits >> 1);
+        left = without(left, x);
+        x = first_mark(left);
     }
     so_far
 }
 
 /// The best of a place and of those in some lines and columns, line by line and from left to right, as long as they lie
-/// below a limit.
+/// below a limit. It stands in its caller once for each count, so that no loop in it asks for that.
+#[inline(always)]
 fn passed(
     block: &[u8],
     count: usize,
@@ -260,5 +261,9 @@ pub fn best_by_bounds(
 {
     let Surroundings { window, sums } = around;
     let limit = limit_for(block, count, window, places, likely, best);
-    passed(block, count, window, sums, places, limit, best)
+    if count == 16 {
+        passed(block, 16, window, sums, places, limit, best)
+    } else {
+        passed(block, 8, window, sums, places, limit, best)
+    }
 }

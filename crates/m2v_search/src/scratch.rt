@@ -35,10 +35,9 @@ impl Surroundings {
 /// none clears it.
 #[derive(Drop)]
 pub struct SearchScratch {
-    /// What is around the macroblock in the reference, or in its top field where both fields are searched.
+    /// What is around the macroblock in the reference. Where both of its fields are searched, they stand here one after the
+    /// other.
     pub around: Surroundings,
-    /// What is around it in the bottom field where both are searched.
-    pub bottom: Surroundings,
     /// Likely places, by the kind of search.
     pub likely: [Likely; 6],
 }
@@ -54,7 +53,6 @@ impl SearchScratch {
         };
         SearchScratch {
             around: Surroundings::new(),
-            bottom: Surroundings::new(),
             likely: [none, none, none, none, none, none],
         }
     }

@@ -105,14 +105,8 @@ fn found_in<V: RefView>(
     requires form { IsFormIn at.structure form }
     requires survey { IsSurvey (V.size view.now) (V.at view.now Y) (block_lines form at.row)
         at.column (reach form search) around.now }
-    ensures value { record { x = result.x; y = result.y }
-        ≡ vector_of (V.size view.now) (V.at view.now Y) source.now.at at.row at.column form search }
-    ensures sad { result.sad ≡ vector_sad (V.at view.now Y) source.now.at (block_lines form at.row)
-        at.column
-        (record { x = result.x; y = result.y }) }
-    ensures inside { vector_inside (V.size view.now) (block_lines form at.row) at.column
-        (record { x = result.x; y = result.y }) ≡ true }
-    ensures within { Reaches form search result.x result.y }
+    ensures best { IsBestOf (V.size view.now) (V.at view.now Y) source.now.at at form search
+        result }
 {
     let dims = view.dims();
     let lines = block_lines(form, at.row);
@@ -154,7 +148,7 @@ pub fn best_vector_in<V: RefView>(
         (record { x = result.x; y = result.y }) ≡ true }
     ensures within { Reaches form search result.x result.y }
 {
-    let SearchScratch { around, likely, .. } = scratch;
+    let SearchScratch { around, likely } = scratch;
     survey(view, at, form, search, around);
     found_in(
         source,
@@ -201,7 +195,8 @@ const BOTTOM_IN_BOTTOM: SearchForm = SearchForm::FieldLines {
 };
 
 /// The vectors that [`best_vector`] finds for the lines of both fields of a macroblock of a frame, in each reference field.
-/// What is around the macroblock in a reference field is read once.
+/// What is around the macroblock in a reference field is read once, and both are searched in it before the other field is
+/// read.
 pub fn best_field_vectors_in<V: RefView>(
     source: &Block16,
     view: &V,
@@ -223,13 +218,8 @@ pub fn best_field_vectors_in<V: RefView>(
     ensures bottom_in_bottom { IsBestOf (V.size view.now) (V.at view.now Y) source.now.at at
         (FieldLines Bottom Bottom) search result.bottom_in_bottom }
 {
-    let SearchScratch {
-        around,
-        bottom,
-        likely,
-    } = scratch;
+    let SearchScratch { around, likely } = scratch;
     survey(view, at, TOP_IN_TOP, search, around);
-    survey(view, at, TOP_IN_BOTTOM, search, bottom);
     let top_in_top = found_in(
         source,
         view,
@@ -238,15 +228,6 @@ pub fn best_field_vectors_in<V: RefView>(
         search,
         around,
         &mut likely[kind(TOP_IN_TOP)],
-    );
-    let top_in_bottom = found_in(
-        source,
-        view,
-        at,
-        TOP_IN_BOTTOM,
-        search,
-        bottom,
-        &mut likely[kind(TOP_IN_BOTTOM)],
     );
     let bottom_in_top = found_in(
         source,
@@ -257,13 +238,23 @@ pub fn best_field_vectors_in<V: RefView>(
         around,
         &mut likely[kind(BOTTOM_IN_TOP)],
     );
+    survey(view, at, TOP_IN_BOTTOM, search, around);
+    let top_in_bottom = found_in(
+        source,
+        view,
+        at,
+        TOP_IN_BOTTOM,
+        search,
+        around,
+        &mut likely[kind(TOP_IN_BOTTOM)],
+    );
     let bottom_in_bottom = found_in(
         source,
         view,
         at,
         BOTTOM_IN_BOTTOM,
         search,
-        bottom,
+        around,
         &mut likely[kind(BOTTOM_IN_BOTTOM)],
     );
     FieldsFound {

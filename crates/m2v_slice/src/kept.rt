@@ -35,15 +35,6 @@ impl Model for KeptRows {
         × (length k.cr.items ≡ 96 * (8 * k.dims.mb_width)) };
 }
 
-/// So many samples 0.
-fn zeros(alloc: Global, count: usize) -> Result<Vec<u8>, Memory>
-    ensures count { IfOk result (λ v. length v.items ≡ count) }
-{
-    let mut samples = Vec::with_capacity(alloc, count)?;
-    samples.resize(count, 0)?;
-    Ok(samples)
-}
-
 /// Puts the lines of a row into a plane of rows, in place k.
 fn put_row(out: &mut [u8], columns: usize, k: u32, row: &RowSamples, plane: Plane)
     requires columns { columns ≡ columns_of row.now.dims plane }
@@ -87,9 +78,9 @@ impl KeptRows {
         let columns = dims.mb_width as usize;
         Ok(KeptRows {
             dims,
-            luma: zeros(alloc, 192 * (16 * columns))?,
-            cb: zeros(alloc, 96 * (8 * columns))?,
-            cr: zeros(alloc, 96 * (8 * columns))?,
+            luma: vec![in alloc; 0; 192 * (16 * columns)]?,
+            cb: vec![in alloc; 0; 96 * (8 * columns)]?,
+            cr: vec![in alloc; 0; 96 * (8 * columns)]?,
         })
     }
 

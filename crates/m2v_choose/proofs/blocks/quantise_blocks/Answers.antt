@@ -1,4 +1,4 @@
-use Rattle.std.proofs.Common.{◌≡◌, ◌<◌, ◌*◌, ◌+◌, ℕ, Bool, [], All, List, length, get_or, map, not, ap, sym, ◌∙◌, arith, refl, subst, ℤ}
+use Rattle.std.proofs.Common.{◌≡◌, ◌*◌, ◌+◌, ℕ, [], All, List, length, get_or, map, not, ap, sym, ◌∙◌, arith, refl, subst, ℤ}
 use Rattle.std.proofs.Math.ListN.{length-set}
 use Rattle.std.proofs.lemmas.List.{length-map, get_or-map}
 use Rattle.std.proofs.lemmas.List.FromFn.{fill_by_all}
@@ -23,6 +23,9 @@ loop-block-init c = record {
   pattern = refl;
 }
 
+pub quantise_reached-some-requires-clause-none : goal.quantise_reached-some-requires-clause-none
+quantise_reached-some-requires-clause-none c = c.requires.none c.loop-block.block (omega arith)
+
 pub pattern_with-pattern-requires : goal.pattern_with-pattern-requires
 pattern_with-pattern-requires c =
     let n = c.loop-block.block in
@@ -38,7 +41,7 @@ loop-block-preserved c =
     let e = λ (b : ℕ). is_empty (f b) in
     let at = λ (l : Levels). l.at in
     let inv = c.loop-block.invariant in
-    let one = c.quantise_one-some.ensures in
+    let one = c.quantise_reached-some.ensures in
     let some = one.some ∙ ap (λ (ls : List ℤ). not (is_empty ls)) one.value in
     record {
       len = simp length-set inv.len;

@@ -1,9 +1,8 @@
-use Rattle.std.proofs.Common.{◌≡◌, Bool, true, false}
+use Rattle.std.proofs.Common.{true, false}
 use Rattle.m2v_plane.specs.declared.planes.Lines.TheVariants.{Top, Bottom}
-use Rattle.m2v_search.specs.declared.form.SearchForm.{SearchForm}
 use Rattle.m2v_search.specs.declared.form.SearchForm.TheVariants.{FieldLines}
 use Rattle.m2v_choose.specs.Candidates.{field_direction}
-use Rattle.m2v_choose.specs.Trials.{decided, place_for}
+use Rattle.m2v_choose.specs.Trials.{decided}
 use Rattle.m2v_choose.proofs.Better.{better_is, vector_is, sad_is}
 use Rattle.m2v_choose.proofs.vectors.field_direction.Goals as goal
 

@@ -1,8 +1,6 @@
-use Rattle.std.proofs.Common.{◌+◌, ◌∙◌, sym}
-use Rattle.m2v_search.proofs.Marking.{shifted}
+use Rattle.std.proofs.Common.{ℕ, refl, get_or}
+use Rattle.m2v_search.proofs.Marking.{told_from}
 use Rattle.m2v_search.proofs.marks.bits_from.Goals as goal
 
 pub returns : goal.returns
-returns c = record {
-  passed = λ k few none. c.bits_below.ensures (c.args.at + k) few (sym (shifted c.bits_below.result c.args.at k) ∙ none);
-}
+returns c = told_from (λ (i : ℕ). get_or c.args.bounds.now i 0) c.args.limit c.args.at c.bits_below.result _ c.requires.at refl c.bits_below.ensures

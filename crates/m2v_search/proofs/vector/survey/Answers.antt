@@ -1,4 +1,4 @@
-use Rattle.std.proofs.Common.{◌≡◌, sym, subst, List, ℕ}
+use Rattle.std.proofs.Common.{sym, subst, List, ℕ}
 use Rattle.m2v_plane.specs.declared.planes.Plane.TheVariants.{Y}
 use Rattle.m2v_search.specs.Spots.{IsWindow}
 use Rattle.m2v_search.proofs.Surveyed.{surveyed}

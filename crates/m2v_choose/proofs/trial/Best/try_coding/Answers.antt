@@ -11,7 +11,7 @@ use Rattle.m2v_choose.specs.Trials.{decided, Tried, block_squared, uncoded_squar
 use Rattle.std.specs.Prelude.{slice_index_or, unsigned_abs}
 use Rattle.m2v_idct.specs.Block.{nth}
 use Rattle.m2v_macroblock.specs.Macroblocks.{kind_for}
-use Rattle.m2v_choose.proofs.Empties.{none_reached}
+use Rattle.m2v_choose.proofs.Empties.{none_reached, none_there}
 use Rattle.m2v_choose.proofs.Tried.{own_picture}
 use Rattle.m2v_choose.proofs.Coded.{coded_writable, kinds_plain, predicts, coding_none, coding_some}
 use Rattle.m2v_choose.proofs.trial.Best.try_coding.Goals as goal
@@ -22,16 +22,23 @@ kinds-kinds-requires-clause-picture c = own_picture c.args.task.now.context.now 
 pub quantise_blocks-pattern-requires-clause-precision : goal.quantise_blocks-pattern-requires-clause-precision
 quantise_blocks-pattern-requires-clause-precision c = kinds_plain c.args.task.now.context.now _ c.args.q c.kinds-kinds.result c.requires.task.asked.own.precision c.kinds-kinds.ensures.value
 
+pub quantise_blocks-pattern-requires-clause-none : goal.quantise_blocks-pattern-requires-clause-none
+quantise_blocks-pattern-requires-clause-none c = λ b lt less.
+    let q = c.args.q in
+    let ts = c.args.transforms.now.at.now in
+    let low : (k : ℕ) → k < 64 → unsigned_abs (nth (slice_index_or ts b []) k) < 2 * q = λ k small. omega (arith, c.requires.far.at b k lt small, less, c.from-least.ensures) in
+    none_there c.args.task.now.context.now q c.requires.task.asked.own c.kinds-kinds.result c.kinds-kinds.ensures.value (slice_index_or ts b []) b low
+
 pub returns-then-not-reaches : goal.returns-then-not-reaches
 returns-then-not-reaches c = record {
   tried = λ r p same samples made rated.
       let t = c.args.task.now in
       let q = c.args.q in
-      let ts = c.args.transforms.now in
+      let ts = c.args.transforms.now.at.now in
       let luma = kind_for t.context.now false true q in
       let chroma = kind_for t.context.now false false q in
-      let low = λ (b k : ℕ) (lt : b < 6) (small : k < 64).
-      subst (λ (n : ℕ). unsigned_abs (nth (slice_index_or ts b []) k) < 2 * n) c.from.ensures (c.reaches.ensures c.if-not-reaches.true b k lt small) in
+      let low : (b k : ℕ) → b < 6 → k < 64 → unsigned_abs (nth (slice_index_or ts b []) k) < 2 * q =
+      λ b k lt small. omega (arith, c.requires.far.at b k lt small, c.reaches.ensures c.if-not-reaches.true b lt, c.from-least.ensures) in
       coding_none r t p c.args.plain.now.bare.now same c.args.plain.now.prediction.now.at ts (quantised_by ts luma chroma) q c.args.dct_field (luma ∷ chroma ∷ [])
       samples made refl refl (none_reached t.context.now q c.requires.task.asked.own ts low) c.args.self.now rated;
 }
@@ -39,7 +46,7 @@ returns-then-not-reaches c = record {
 pub returns-then-pattern-eq0 : goal.returns-then-pattern-eq0
 returns-then-pattern-eq0 c = record {
   tried = λ r p same samples made rated.
-      coding_none r c.args.task.now p c.args.plain.now.bare.now same c.args.plain.now.prediction.now.at c.args.transforms.now (levels_of c.quantise_blocks-pattern.new.out) c.args.q c.args.dct_field c.kinds-kinds.result
+      coding_none r c.args.task.now p c.args.plain.now.bare.now same c.args.plain.now.prediction.now.at c.args.transforms.now.at.now (levels_of c.quantise_blocks-pattern.new.out) c.args.q c.args.dct_field c.kinds-kinds.result
       samples made c.kinds-kinds.ensures.value c.quantise_blocks-pattern.ensures.value (sym c.quantise_blocks-pattern.ensures.pattern ∙ c.if-pattern-eq0.true) c.args.self.now rated;
 }
 
@@ -76,7 +83,7 @@ returns c = record {
       let some : 0 < pattern_of ls = omega (arith, c.if-pattern-eq0.false, c.quantise_blocks-pattern.ensures.pattern) in
       let told : Predicts r t c.with_blocks-syntax.result c.args.plain.now.prediction.now.at =
       subst (λ (x : MacroSyntax). Predicts r t x c.args.plain.now.prediction.now.at) (sym full) (predicts r t p c.args.plain.now.bare.now same c.args.plain.now.prediction.now.at q dct (pattern_of ls) samples) in
-      coding_some r t p c.args.plain.now.bare.now same c.args.plain.now.prediction.now.at c.args.transforms.now ls q dct c.kinds-kinds.result
+      coding_some r t p c.args.plain.now.bare.now same c.args.plain.now.prediction.now.at c.args.transforms.now.at.now ls q dct c.kinds-kinds.result
       samples made c.kinds-kinds.ensures.value c.quantise_blocks-pattern.ensures.value some c.args.self.now c.try_written.new.self
       (subst (λ (x : MacroSyntax). Tried (decided r t) c.args.self.now c.try_written.new.self (written x ls ∷ [])) full (c.try_written.ensures.tried r told rated));
 }

@@ -1,10 +1,19 @@
-use Rattle.std.proofs.Common.{◌≡◌, ℕ, map, subst, sym, ◌∙◌, ap, true, false}
+use Rattle.std.proofs.Common.{◌≡◌, ℕ, All, map, replicate, subst, sym, ◌∙◌, ap, true, false, arith, pos}
+use Rattle.std.proofs.lemmas.Int.{ints}
+use Rattle.std.proofs.lemmas.List.Elements.{All-replicate}
+use Rattle.m2v_quant.specs.Kinds.{IsLevel}
 use Rattle.std.proofs.lemmas.Bool.{eq-eqb, ne_eqb}
 use Rattle.std.specs.Prelude.{nat_eq}
 use Rattle.m2v_choose.specs.Trials.{decided, Tried}
 use Rattle.m2v_choose.specs.Candidates.{second_q as second_of, intra_by, codings_at}
 use Rattle.m2v_choose.proofs.IntraCoded.{tried_once, tried_twice}
+use Rattle.m2v_choose.proofs.Tried.{each_level}
 use Rattle.m2v_choose.proofs.trial.Best.try_intra.Goals as goal
+
+pub try_intra_at-requires-clause-within : goal.try_intra_at-requires-clause-within
+try_intra_at-requires-clause-within c =
+    each_level c.no_levels.result.now
+    (subst (All (All IsLevel)) (sym c.no_levels.ensures) (All-replicate (All IsLevel) 6 (replicate 64 (pos 0)) (All-replicate IsLevel 64 (pos 0) (omega (arith, ints), omega (arith, ints)))))
 
 pub returns-then-second-q : goal.returns-then-second-q
 returns-then-second-q c = record {

@@ -10,9 +10,9 @@ try_predicted-requires-clause-measured c =
     let s = t.source.now.at in
     let p = c.args.prediction.now.at in
     record {
-      frame = c.part_squares.ensures;
+      frame = c.part_squares.ensures.value;
       field = c.field_squares.ensures;
-      least = record { header = n; bits = c.count_alone-alone.ensures.header; value = c.least_score.ensures.value ∙ least_known bit n false s p c.part_squares.new.out c.part_squares.ensures };
+      least = record { header = n; bits = c.count_alone-alone.ensures.header; value = c.least_score.ensures.value ∙ least_known bit n false s p c.part_squares.new.out c.part_squares.ensures.value };
       field_least = λ has. record {
         header = n;
         bits = c.count_alone-alone.ensures.header;

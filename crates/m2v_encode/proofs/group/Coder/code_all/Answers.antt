@@ -13,6 +13,7 @@ use Rattle.m2v_encode.specs.declared.group.Coder.{Coder}
 use Rattle.m2v_encode.proofs.Due.{some_bytes}
 use Rattle.m2v_encode.proofs.Loop.{goes_fresh, opening_rest, sound_read, turned}
 use Rattle.m2v_encode.proofs.Progress.{so_far_none, so_far_read, so_far_due, so_far_same, frame_stopped, due_stopped, all_ended, all_stopped, look_stopped, went_on}
+use Rattle.m2v_encode.proofs.WithoutRecon.{still_untold}
 use Rattle.m2v_encode.proofs.group.Coder.code_all.Goals as goal
 
 pub loop-number-init : goal.loop-number-init
@@ -70,6 +71,15 @@ code_due-requires-clause-sound g c = λ κs l.
     let inv = c.loop-number.invariant in
     let next = c.in_ok-next_frame.ensures.read (ap Ok c.if-not-branch.false) in
     sound_read c.args.self.now.settings c.loop-number.queue c.next_frame.new.queue _ c.settings-known.ensures.passes inv.so_far.handed.settings inv.sound inv.so_far.handed.going (rw inv.settings at next)
+
+pub code_due-requires-clause-unshown : goal.code_due-requires-clause-unshown
+code_due-requires-clause-unshown g c = λ κs l. λ none. still_untold _ _ _ (c.requires.unshown none) c.loop-number.invariant.so_far.shown
+
+pub finish-requires-clause-unshown : goal.finish-requires-clause-unshown
+finish-requires-clause-unshown g c = λ κs l. λ none. still_untold _ _ _ (c.requires.unshown none) c.loop-number.invariant.so_far.shown
+
+pub finish-requires-2-clause-unshown : goal.finish-requires-2-clause-unshown
+finish-requires-2-clause-unshown g c = λ κs l. λ none. still_untold _ _ _ (c.requires.unshown none) c.loop-number.invariant.so_far.shown
 
 pub returns-in_err-code_due-clause-err : goal.returns-in_err-code_due-clause-err
 returns-in_err-code_due-clause-err g c =

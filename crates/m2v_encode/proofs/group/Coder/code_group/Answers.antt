@@ -41,11 +41,11 @@ returns-clause-coded g c =
       settings = c.do_jobs.new.self.settings;
       ledger = c.ledger-self.result;
       before = c.in_ok-self.field-0;
-      raw = with_items c.do_jobs.new.self.raw c.put_frames.new.buffer;
+      raw = with_items c.do_jobs.new.self.raw c.put_shown.new.buffer;
       headers = c.put_pictures.new.headers;
       total = c.put_pictures.new.total;
     } in
-    subst (λ (b : Book). GroupCoded c.args.self.now d b c.args.ends (change g.K.Sink.held g.K.Sink.faults c.args.output.now c.put_pictures.new.output) (change g.N.Sink.held g.N.Sink.faults c.args.recon.now c.put_frames.new.recon)) c.in-Ok.ensures.value
+    subst (λ (b : Book). GroupCoded c.args.self.now d b c.args.ends (change g.K.Sink.held g.K.Sink.faults c.args.output.now c.put_pictures.new.output) (change g.N.Sink.held g.N.Sink.faults c.args.recon.now c.put_shown.new.recon)) c.in-Ok.ensures.value
     (coded_by c.args.self.now d c.in-Ok.done c.args.ends c.do_jobs.new.self.total c.ledger-self.result _ _ c.do_jobs.ensures.total c.ledger-self.ensures.value
     c.in_ok-put_pictures.ensures.grown c.in_ok-self.ensures.grown c.do_jobs.ensures.settings refl c.in_ok-self.ensures.anchor
     c.in_ok-put_pictures.ensures.frames c.in_ok-put_pictures.ensures.pictures c.in_ok-put_pictures.ensures.bytes c.in_ok-put_pictures.ensures.stuffing)
