@@ -26,3 +26,6 @@ pub mod Boundary
 pub mod Groups
 pub mod Frames
 pub mod Numbers
+pub mod ByUnits
+pub mod Tails
+pub mod Placing

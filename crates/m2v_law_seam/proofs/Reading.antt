@@ -60,7 +60,7 @@ course_closed : (us : Units) (r : Result (Sofar × Units) (FaultKind × ℕ)) �
 course_closed us (Ok x) e = tree_closed us x.1 x.0 e
 course_closed us (Err f) e = tt
 
-read_closed : (us : Units) → IsClosed (units_read at_start us)
+pub read_closed : (us : Units) → IsClosed (units_read at_start us)
 unfolding units_read
 read_closed us = course_closed us ((units_from at_first).read us) refl
 
@@ -74,7 +74,7 @@ code_begins : BeginsPiece (end_code ∷ [])
 unfolding begins_piece
 code_begins = refl
 
-rested_same : (b : Between) → b.state.picture ≡ None → rested b ≡ b
+pub rested_same : (b : Between) → b.state.picture ≡ None → rested b ≡ b
 rested_same b e = ap (λ (p : Option Open). record { state = record b.state { picture = None }; store = picture_ended p b.store }) e ∙ ap (λ (p : Option Open). record { state = record b.state { picture = p }; store = b.store }) (sym e)
 
 code_read : (b : Between) → IsKnown b.state → b.state.picture ≡ None → units_read b (end_code ∷ []) ≡ cond (none_waits b.state.waiting) (Ok ([], b)) (Err (FieldPair, 32))
@@ -100,7 +100,7 @@ code_split (Err f) n end k none at = let bits : 8 * end - (f.1 + 32) ≡ 8 * n -
 
 -- ---- units with the end code
 
-read_ended : (h : List ℕ) (pm : Units) → AreUnits ((h ∷ pm) ++ end_code ∷ []) → is_sequence h ≡ true → NoEnds (h ∷ pm) → strands.read_of (joined (h ∷ pm)) ≡ ended_read (8 * length (joined (h ∷ pm))) (units_read at_start (h ∷ pm))
+pub read_ended : (h : List ℕ) (pm : Units) → AreUnits ((h ∷ pm) ++ end_code ∷ []) → is_sequence h ≡ true → NoEnds (h ∷ pm) → strands.read_of (joined (h ∷ pm)) ≡ ended_read (8 * length (joined (h ∷ pm))) (units_read at_start (h ∷ pm))
 read_ended h pm are is goes =
     let us = h ∷ pm in
     let text = joined us ++ end_code in
@@ -119,7 +119,7 @@ split_then : (vs : Units) (r : Course) → split vs r ≡ read_then r vs
 split_then vs (Ok x) = refl
 split_then vs (Err f) = refl
 
-both_go : (us vs : Units) → NoEnds us → NoEnds vs → NoEnds (us ++ vs)
+pub both_go : (us vs : Units) → NoEnds us → NoEnds vs → NoEnds (us ++ vs)
 both_go [] vs n m = m
 both_go (u ∷ us) vs n m = (n.0, both_go us vs n.1 m)
 

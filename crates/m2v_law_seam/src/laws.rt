@@ -1,12 +1,12 @@
 //! What holds of mended streams.
-ghost use Rattle.std.specs.Prelude.{◌≡◌, ℕ, true, List};
-ghost use Rattle.m2v_model.specs.Units.{Units};
+ghost use Rattle.std.specs.Prelude.{◌≡◌, ℕ, true, false, List};
+ghost use Rattle.m2v_model.specs.Units.{Units, cut};
 ghost use Rattle.m2v_law_seam.specs.Worked.{WorkedMends};
-ghost use Rattle.m2v_law_seam.specs.Strands.{reads};
-ghost use Rattle.m2v_law_seam.specs.Reading.{CanFollow, ReadsOn};
+ghost use Rattle.m2v_law_seam.specs.Strands.{reads, begins_sequence, has_end};
+ghost use Rattle.m2v_law_seam.specs.Reading.{CanFollow, ReadsOn, ByUnits, FaultTold};
 ghost use Rattle.m2v_law_seam.specs.Seam.{Seam};
 ghost use Rattle.m2v_law_seam.specs.Mends.{MendDecodes, MendSame, MendTwice, LeftOut, AllTold, AllThere, PicturesKept, AnswerTells, FramesTold};
-ghost use Rattle.m2v_law_seam.specs.Spans.{Dividing, spans, steps};
+ghost use Rattle.m2v_law_seam.specs.Spans.{Dividing, Span, spans, steps};
 
 /// What is made of damaged streams that are given byte by byte is what was written by hand.
 pub fn law_worked_mends()
@@ -52,6 +52,17 @@ pub fn law_frames_told()
 /// What is read of a strand with units behind it is what is read of the strand, and then of those from there on.
 pub fn law_reads_on()
     ensures { (bytes : List ℕ) (u : List ℕ) (us : Units) → reads bytes ≡ true → CanFollow u us → ReadsOn bytes u us }
+{}
+
+/// What is read of bytes that begin with a sequence header and have no end code, and whether they are a strand, goes by what is
+/// read of their units.
+pub fn law_by_units()
+    ensures { (bytes : List ℕ) → begins_sequence bytes ≡ true → has_end (cut 0 bytes).1 ≡ false → ByUnits bytes }
+{}
+
+/// The fault of a span behind a strand is the one that its pieces tell as they are read behind it, one after another.
+pub fn law_fault_told()
+    ensures { (s : Span) (bytes : List ℕ) (ps : List (List ℕ)) → FaultTold s bytes ps }
 {}
 
 /// The spans have each unit of the input, end codes apart, once and in order, and so do gaps stand: by whole groups and by steps.

@@ -4,6 +4,7 @@
 mod laws;
 
 pub use laws::{
-    law_all_there, law_all_told, law_answer, law_frames_told, law_left_out, law_mend_decodes,
-    law_mend_same, law_mend_twice, law_pictures_kept, law_reads_on, law_seam, law_worked_mends,
+    law_all_there, law_all_told, law_answer, law_by_units, law_fault_told, law_frames_told,
+    law_left_out, law_mend_decodes, law_mend_same, law_mend_twice, law_pictures_kept, law_reads_on,
+    law_seam, law_worked_mends,
 };

@@ -1,0 +1,231 @@
+-- The pieces that a cutter hands out of a stretch, without what stands before its first unit and without its end code, are the
+-- pieces of the stretch.
+use Rattle.std.proofs.Common.{◌≡◌, ℕ, ◌≤◌, Bool, true, false, List, [], ◌∷◌, ◌++◌, length, take, drop, inl, inr, refl, sym, ap, subst, ◌∙◌, append_assoc, append-nil, arith}
+use Rattle.std.specs.Prelude.{nat_eq, if◌then◌else◌}
+use Rattle.std.proofs.lemmas.Bool.{cases_Bool, both_ways}
+use Rattle.std.proofs.lemmas.List.{take-append-drop, length-append, drop-append-le}
+use Rattle.m2v_model.specs.declared.phase.Phase.{Phase}
+use Rattle.m2v_model.specs.declared.phase.Phase.TheVariants.{Before, Headers, Picture}
+use Rattle.m2v_model.specs.Units.{Units, begins_code, cut, joined, Clear, AreUnits, Cuts}
+use Rattle.m2v_model.specs.Streams.{value_of}
+use Rattle.m2v_model.specs.Pieces.{phase_after, begins_piece, is_end, piece_of, grouped}
+use Rattle.m2v_model.proofs.CutLaws.{cut_cuts, cuts_is, joined-append, are_before, are_behind, are_code}
+use Rattle.m2v_model.proofs.PieceLaws.{value_code}
+use Rattle.m2v_model.proofs.ShiftLaws.{NoEnds}
+use Rattle.m2v_law_seam.proofs.There.{more_goes}
+use Rattle.m2v_law_group.specs.Groups.{to_end}
+use Rattle.m2v_mend.specs.Feeding.{bare, bare_pieces}
+
+-- ---- units before an end code
+
+before_none : (vs : Units) → NoEnds vs → to_end vs ≡ vs
+unfolding to_end
+before_none [] n = refl
+before_none (v ∷ vs) n = rw (n.0) (ap (λ (l : Units). v ∷ l) (before_none vs n.1))
+
+before_code : (vs : Units) (e : List ℕ) → NoEnds vs → is_end (value_of e) ≡ true → to_end (vs ++ e ∷ []) ≡ vs
+unfolding to_end
+before_code [] e n on = rw on refl
+before_code (v ∷ vs) e n on = rw (n.0) (ap (λ (l : Units). v ∷ l) (before_code vs e n.1 on))
+
+before_on : (u : List ℕ) (us : Units) → is_end (value_of u) ≡ true → to_end (u ∷ us) ≡ []
+unfolding to_end
+before_on u us on = rw on refl
+
+before_off : (u : List ℕ) (us : Units) → is_end (value_of u) ≡ false → to_end (u ∷ us) ≡ u ∷ to_end us
+unfolding to_end
+before_off u us off = rw off refl
+
+-- ---- bytes before the first unit
+
+begins_more : (bs cs : List ℕ) → begins_code bs ≡ true → begins_code (bs ++ cs) ≡ true
+begins_more [] cs h = absurd cc
+begins_more (a ∷ []) cs h = absurd cc
+begins_more (a ∷ b ∷ []) cs h = absurd cc
+begins_more (a ∷ b ∷ c ∷ []) cs h = absurd cc
+begins_more (a ∷ b ∷ c ∷ v ∷ bs) cs h = h
+
+-- what is clear before more bytes is clear before the first of them
+clear_before : (j rest more : List ℕ) → Clear 0 j (rest ++ more) → Clear 0 j rest
+clear_before j rest more h i le lt =
+    let e : drop i (j ++ rest) ++ more ≡ drop i (j ++ (rest ++ more)) = sym (drop-append-le i (j ++ rest) more (omega (arith, length-append j rest))) ∙ ap (drop i) (append_assoc j rest more) in
+    elim (cases_Bool (begins_code (drop i (j ++ rest)))) [
+      | inl on ↦ absurd (both_ways _ (h i le lt) (subst (λ (x : List ℕ). begins_code x ≡ true) e (begins_more (drop i (j ++ rest)) more on)))
+      | inr off ↦ off
+    ]
+
+-- units behind such bytes, of which some may belong to later pieces
+record At (j : List ℕ) (vs us : Units) : Type 0 where
+  clear : Clear 0 j (joined (vs ++ us))
+  are : AreUnits (vs ++ us)
+  none : NoEnds vs
+
+at_clear : (j : List ℕ) (vs us : Units) → Clear 0 j (joined (vs ++ us)) → Clear 0 j (joined vs)
+at_clear j vs us h = clear_before j (joined vs) (joined us) (subst (Clear 0 j) (joined-append vs us) h)
+
+-- a piece that ends before other units
+bare_front : (j : List ℕ) (vs us : Units) → At j vs us → bare (j ++ joined vs) ≡ joined vs
+bare_front j vs us at =
+    let cuts : Cuts (j ++ joined vs) j vs = record { whole = refl; front_clear = at_clear j vs us at.clear; are_units = are_before vs us at.are } in
+    ap (λ (x : List ℕ × Units). joined (to_end x.1)) (cuts_is (j ++ joined vs) j vs cuts) ∙ ap joined (before_none vs at.none)
+
+-- one that ends with an end code
+bare_code : (j : List ℕ) (vs : Units) (u : List ℕ) (us : Units) → At j vs (u ∷ us) → is_end (value_of u) ≡ true → bare ((j ++ joined vs) ++ take 4 u) ≡ joined vs
+bare_code j vs u us at on =
+    let code = vs ++ take 4 u ∷ [] in
+    let same : joined code ≡ joined vs ++ take 4 u = joined-append vs (take 4 u ∷ []) ∙ ap (λ (l : List ℕ). joined vs ++ l) (append-nil (take 4 u)) in
+    let bytes : (j ++ joined vs) ++ take 4 u ≡ j ++ joined code = append_assoc j (joined vs) (take 4 u) ∙ ap (λ (l : List ℕ). j ++ l) (sym same) in
+    let whole : joined (vs ++ u ∷ us) ≡ joined code ++ (drop 4 u ++ joined us) =
+    joined-append vs (u ∷ us)
+    ∙ ap (λ (l : List ℕ). joined vs ++ (l ++ joined us)) (sym (take-append-drop 4 u))
+    ∙ ap (λ (l : List ℕ). joined vs ++ l) (append_assoc (take 4 u) (drop 4 u) (joined us))
+    ∙ sym (append_assoc (joined vs) (take 4 u) (drop 4 u ++ joined us))
+    ∙ ap (λ (l : List ℕ). l ++ (drop 4 u ++ joined us)) (sym same) in
+    let cuts : Cuts ((j ++ joined vs) ++ take 4 u) j code = record {
+      whole = bytes;
+      front_clear = clear_before j (joined code) (drop 4 u ++ joined us) (subst (Clear 0 j) whole at.clear);
+      are_units = are_code vs us u at.are;
+    } in
+    let last : is_end (value_of (take 4 u)) ≡ true = ap is_end (value_code u) ∙ on in
+    ap (λ (x : List ℕ × Units). joined (to_end x.1)) (cuts_is _ j code cuts) ∙ ap joined (before_code vs (take 4 u) at.none last)
+
+-- ---- pieces
+
+bare_none : bare [] ≡ []
+unfolding cut to_end
+bare_none = refl
+
+bare_one : (w : List ℕ) → bare_pieces (piece_of w) ≡ piece_of (bare w)
+unfolding bare_pieces
+bare_one [] = ap piece_of (sym bare_none)
+bare_one (b ∷ w) = append-nil (piece_of (bare (b ∷ w)))
+
+bare_first : (w : List ℕ) (ws : List (List ℕ)) → bare_pieces (w ∷ ws) ≡ piece_of (bare w) ++ bare_pieces ws
+unfolding bare_pieces
+bare_first w ws = refl
+
+no_pieces : bare_pieces [] ≡ []
+unfolding bare_pieces
+no_pieces = refl
+
+bare_one_piece : (w : List ℕ) → bare_pieces (w ∷ []) ≡ piece_of (bare w)
+unfolding bare_pieces
+bare_one_piece w = append-nil (piece_of (bare w))
+
+some_piece : (w : List ℕ) → 1 ≤ length w → piece_of w ≡ w ∷ []
+some_piece [] le = absurd (omega (arith, le))
+some_piece (b ∷ w) le = refl
+
+-- what is known of the bytes of a piece in its phase
+abbrev IsOpen : Phase → List ℕ → Type 0
+IsOpen Before w = ⊥
+IsOpen Headers w = Unit {0}
+IsOpen Picture w = 1 ≤ length w
+
+open_after : (value : ℕ) (w : List ℕ) → 1 ≤ length w → IsOpen (phase_after Headers value) w
+unfolding phase_after
+open_after value w le = by_case (nat_eq value 0x00)
+  where
+    by_case : (b : Bool) → IsOpen (if b then Picture else Headers) w
+    by_case true = le
+    by_case false = tt
+
+grown : (j : List ℕ) (vs : Units) (u : List ℕ) → (j ++ joined vs) ++ u ≡ j ++ joined (vs ++ u ∷ [])
+grown j vs u =
+    append_assoc j (joined vs) u
+    ∙ ap (λ (l : List ℕ). j ++ (joined vs ++ l)) (sym (append-nil u))
+    ∙ ap (λ (l : List ℕ). j ++ l) (sym (joined-append vs (u ∷ [])))
+
+at_more : (j : List ℕ) (vs : Units) (u : List ℕ) (us : Units) → At j vs (u ∷ us) → is_end (value_of u) ≡ false → At j (vs ++ u ∷ []) us
+at_more j vs u us at off =
+    let same : vs ++ u ∷ us ≡ (vs ++ u ∷ []) ++ us = sym (append_assoc vs (u ∷ []) us) in
+    record {
+      clear = subst (λ (l : Units). Clear 0 j (joined l)) same at.clear;
+      are = subst AreUnits same at.are;
+      none = more_goes vs u at.none off;
+    }
+
+at_begin : (vs : Units) (u : List ℕ) (us : Units) → AreUnits (vs ++ u ∷ us) → is_end (value_of u) ≡ false → At [] (u ∷ []) us
+at_begin vs u us are off = record { clear = λ i le lt. absurd (omega (arith, lt)); are = are_behind vs (u ∷ us) are; none = (off, tt) }
+
+unit_long : (vs : Units) (u : List ℕ) (us : Units) → AreUnits (vs ++ u ∷ us) → 4 ≤ length u
+unit_long vs u us are = (are_behind vs (u ∷ us) are).0
+
+-- bytes that grow by a unit, on both sides
+by_growth : (phase : Phase) (j : List ℕ) (vs : Units) (u : List ℕ) (us : Units)
+    → bare_pieces (grouped phase (j ++ joined (vs ++ u ∷ [])) us) ≡ grouped phase (joined (vs ++ u ∷ [])) (to_end us)
+    → bare_pieces (grouped phase ((j ++ joined vs) ++ u) us) ≡ grouped phase (joined vs ++ u) (to_end us)
+by_growth phase j vs u us h =
+    ap (λ (x : List ℕ). bare_pieces (grouped phase x us)) (grown j vs u) ∙ h ∙ ap (λ (x : List ℕ). grouped phase x (to_end us)) (sym (grown [] vs u))
+
+long_more : (vs : Units) (u : List ℕ) → 4 ≤ length u → 1 ≤ length (joined (vs ++ u ∷ []))
+long_more vs u le = omega (arith, le, ap length (grown [] vs u), length-append (joined vs) u)
+
+-- what holds of the units behind, whatever phase they are in
+abbrev Later : Units → Type 0
+Later us =
+    (phase : Phase) (j : List ℕ) (vs : Units) → IsOpen phase (joined vs) → At j vs us
+    → bare_pieces (grouped phase (j ++ joined vs) us) ≡ grouped phase (joined vs) (to_end us)
+
+-- before the picture of a piece
+in_headers : (u : List ℕ) (us : Units) (j : List ℕ) (vs : Units) → At j vs (u ∷ us) → Later us
+    → bare_pieces (grouped Headers (j ++ joined vs) (u ∷ us)) ≡ grouped Headers (joined vs) (to_end (u ∷ us))
+unfolding grouped
+in_headers u us j vs at later =
+    elim (cases_Bool (is_end (value_of u))) [
+      | inl on ↦
+          rw (on, before_on u us on) (bare_one_piece ((j ++ joined vs) ++ take 4 u) ∙ ap piece_of (bare_code j vs u us at on))
+      | inr off ↦
+          let phase = phase_after Headers (value_of u) in
+          let le = unit_long vs u us at.are in
+          let next = later phase j (vs ++ u ∷ []) (open_after (value_of u) (joined (vs ++ u ∷ [])) (long_more vs u le)) (at_more j vs u us at off) in
+          rw (off, before_off u us off, off) (by_growth phase j vs u us next)
+    ]
+
+-- behind it
+in_picture : (u : List ℕ) (us : Units) (j : List ℕ) (vs : Units) → 1 ≤ length (joined vs) → At j vs (u ∷ us) → Later us
+    → bare_pieces (grouped Picture (j ++ joined vs) (u ∷ us)) ≡ grouped Picture (joined vs) (to_end (u ∷ us))
+unfolding grouped
+in_picture u us j vs some at later =
+    elim (cases_Bool (is_end (value_of u))) [
+      | inl on ↦
+          let alone : At [] [] (u ∷ us) = record { clear = λ i le lt. absurd (omega (arith, lt)); are = are_behind vs (u ∷ us) at.are; none = tt } in
+          let code : bare (take 4 u) ≡ [] = bare_code [] [] u us alone on in
+          rw (on, before_on u us on) (bare_first (j ++ joined vs) (take 4 u ∷ [])
+          ∙ ap (λ (l : List (List ℕ)). piece_of (bare (j ++ joined vs)) ++ l) (bare_one_piece (take 4 u) ∙ ap piece_of code)
+          ∙ append-nil (piece_of (bare (j ++ joined vs)))
+          ∙ ap piece_of (bare_front j vs (u ∷ us) at))
+      | inr off ↦ elim (cases_Bool (begins_piece (value_of u))) [
+        | inl on ↦
+            let phase = phase_after Headers (value_of u) in
+            let le = unit_long vs u us at.are in
+            let one : u ++ [] ≡ u = append-nil u in
+            let next = later phase [] (u ∷ []) (open_after (value_of u) (joined (u ∷ [])) (omega (arith, le, ap length one))) (at_begin vs u us at.are off) in
+            let next' : bare_pieces (grouped phase u us) ≡ grouped phase u (to_end us) = subst (λ (x : List ℕ). bare_pieces (grouped phase x us) ≡ grouped phase x (to_end us)) one next in
+            rw (off, before_off u us off, off, on) (bare_first (j ++ joined vs) (grouped phase u us)
+            ∙ ap (λ (w : List ℕ). piece_of w ++ bare_pieces (grouped phase u us)) (bare_front j vs (u ∷ us) at)
+            ∙ ap (λ (l : List (List ℕ)). l ++ bare_pieces (grouped phase u us)) (some_piece (joined vs) some)
+            ∙ ap (λ (l : List (List ℕ)). joined vs ∷ l) next')
+        | inr none ↦
+            let le = unit_long vs u us at.are in
+            let next = later Picture j (vs ++ u ∷ []) (long_more vs u le) (at_more j vs u us at off) in
+            rw (off, before_off u us off, off, none) (by_growth Picture j vs u us next)
+      ]
+    ]
+
+-- the units of a stretch, behind the first ones of a piece
+bared : (us : Units) → Later us
+unfolding grouped to_end
+bared [] Before j vs some at = absurd some
+bared [] Headers j vs some at = bare_one (j ++ joined vs) ∙ ap piece_of (bare_front j vs [] at)
+bared [] Picture j vs some at = bare_one (j ++ joined vs) ∙ ap piece_of (bare_front j vs [] at)
+bared (u ∷ us) Before j vs some at = absurd some
+bared (u ∷ us) Headers j vs some at = in_headers u us j vs at (bared us)
+bared (u ∷ us) Picture j vs some at = in_picture u us j vs some at (bared us)
+
+-- the pieces of a text, as they are cut from its first byte on
+pub text_bared : (text : List ℕ) → bare_pieces (grouped Headers (cut 0 text).0 (cut 0 text).1) ≡ grouped Headers [] (to_end (cut 0 text).1)
+text_bared text =
+    let cuts = cut_cuts text in
+    let at : At (cut 0 text).0 [] (cut 0 text).1 = record { clear = cuts.front_clear; are = cuts.are_units; none = tt } in
+    ap (λ (x : List ℕ). bare_pieces (grouped Headers x (cut 0 text).1)) (sym (append-nil (cut 0 text).0)) ∙ bared (cut 0 text).1 Headers (cut 0 text).0 [] tt at

@@ -1,0 +1,9 @@
+use Rattle.std.proofs.Common.{length}
+use Rattle.m2v_mend.proofs.InfoLaws.{CountedTo}
+use Rattle.m2v_mend.proofs.info.count.Given as goal
+
+abbrev pub invariant-loop-counted : goal.invariant-loop-counted
+invariant-loop-counted l = CountedTo l.fn.units l.units l.counted
+
+abbrev pub decreases-loop-counted : goal.decreases-loop-counted
+decreases-loop-counted l = length l.units

@@ -1,0 +1,181 @@
+//! The pieces of an input's stretches, as they are read.
+ghost use Rattle.std.specs.Prelude.{◌≡◌, ◌+◌, ◌-◌, ◌*◌, ◌^◌, ◌≤◌, ◌<◌, length, take, drop, vec_len, true, false, IfOk, IfErr, IfSome, OnOk, IsErrOf, IfNone};
+ghost use Rattle.m2v_port.specs.Port.{Rose};
+ghost use Rattle.m2v_model.specs.Units.{cut, unit_bits};
+ghost use Rattle.m2v_decode.specs.m2v_dec_piece.Sound.{IsSoundPiece};
+ghost use Rattle.m2v_decode.specs.m2v_dec_piece.Cutting.{IsReading};
+ghost use Rattle.m2v_decode.specs.m2v_dec_piece.Stepping.{Stopped};
+ghost use Rattle.m2v_decode.specs.Decoding.{whole_of};
+ghost use Rattle.m2v_mend.specs.Feeding.{from_end, IsPart, IsBare, AreBare, IsExtent, Fed, nothing_read, within};
+
+use crate::Memory;
+use crate::walk::units;
+use m2v_dec_unit::UnitReader;
+use m2v_decode::{Cutter, DecodeError, Piece};
+use m2v_port::Source;
+use std::alloc::Global;
+use std::marker::Model;
+
+/// The value of a sequence end code.
+const END: u8 = 0xB7;
+
+/// How many bits units have from the first sequence end code on.
+#[tactic(auto, unfolding(crate::specs::Feeding::from_end, m2v_model::specs::Pieces::is_end))]
+fn bits_from_end(units: &mut UnitReader) -> u64
+    ensures { result ≡ unit_bits (from_end units.old) }
+{
+    loop {
+        let left = units.left();
+        match units.next() {
+            None => return 0,
+            Some(u) => {
+                if u.value() == END {
+                    return left;
+                }
+            }
+        }
+    }
+}
+
+/// So many bytes behind so many, or as many as there are.
+fn bytes_of(alloc: Global, bytes: &[u8], before: usize, own: u64) -> Result<Vec<u8>, Memory>
+    requires { before ≤ length bytes.now }
+    ensures { IfOk result (λ v. v.items ≡ take own (drop before bytes.now)) }
+{
+    let behind = &bytes[before..];
+    let count = own.min(behind.len() as u64) as usize;
+    behind[..count].to_vec(alloc)
+}
+
+/// So many bytes of a piece, behind so many.
+fn part(alloc: Global, piece: &Piece, before: u64, own: u64) -> Result<Piece, Memory>
+    requires sound { IsSoundPiece piece.now }
+    requires within { before + own ≤ piece.now.length }
+    requires some { before < vec_len piece.now.bytes }
+    ensures { IfOk result (λ p. IsPart p (piece.now.place + before)
+        (take own (drop before (whole_of piece.now)))) }
+{
+    let bytes = bytes_of(alloc, &piece.bytes, before as usize, own)?;
+    Ok(Piece {
+        bytes,
+        place: piece.place + before,
+        length: own,
+    })
+}
+
+/// What stands in a piece from its first unit on, and how much of it before a sequence end code, in bytes.
+#[derive(Clone, Copy)]
+struct Extent {
+    units: u64,
+    own: u64,
+}
+
+/// Measures a piece.
+fn measured(piece: &Piece) -> Extent
+    requires { IsSoundPiece piece.now }
+    ensures { IsExtent (whole_of piece.now) result }
+{
+    let all = units(piece).left();
+    let behind = bits_from_end(&mut units(piece));
+    Extent {
+        units: all / 8,
+        own: all.saturating_sub(behind) / 8,
+    }
+}
+
+/// A piece without what stands before its first unit, and without a sequence end code.
+fn bared(alloc: Global, piece: Piece) -> Result<Piece, Memory>
+    requires { IsSoundPiece piece }
+    ensures { IfOk result (λ p. IsBare p piece.place (whole_of piece)) }
+{
+    let extent = measured(&piece);
+    if extent.own == piece.length {
+        return Ok(piece);
+    }
+    if extent.units == 0 {
+        return Ok(Piece {
+            bytes: Vec::new(alloc),
+            place: piece.place + piece.length,
+            length: 0,
+        });
+    }
+    part(alloc, &piece, piece.length - extent.units, extent.own)
+}
+
+/// The same, where there is a piece.
+fn bared_if(alloc: Global, piece: Option<Piece>) -> Result<Option<Piece>, Memory>
+    requires { IfSome piece IsSoundPiece }
+    ensures { IfOk result (AreBare piece) }
+{
+    match piece {
+        None => Ok(None),
+        Some(piece) => {
+            let bare = bared(alloc, piece)?;
+            Ok(Some(bare))
+        }
+    }
+}
+
+/// The pieces of an input's stretches, one after another.
+///
+/// Contracts see it as the cutter that reads them.
+#[derive(Drop)]
+pub struct Feed {
+    cutter: Cutter,
+}
+
+impl Model for Feed {
+    ghost use Rattle.m2v_decode.specs.m2v_dec_piece.Cutting.{Cutting};
+
+    ghost Value = { Cutting };
+
+    ghost view = { λ f. f.cutter };
+}
+
+impl Feed {
+    /// Nothing was read.
+    pub fn new(alloc: Global) -> Result<Feed, Memory>
+        ensures { IfOk result (λ f. f ≡ nothing_read) }
+    {
+        let mut cutter = Cutter::new(alloc)?;
+        cutter.begin_within();
+        Ok(Feed { cutter })
+    }
+
+    /// Goes on with the next stretch, behind the last piece of one.
+    pub fn go_on(&mut self)
+        requires going { self.old.failed ≡ false }
+        ensures { self.new ≡ within self.old }
+    {
+        self.cutter.begin_within();
+    }
+
+    /// The place of what was read and not handed out; behind the last piece of a stretch, where that ends.
+    pub fn place(&self) -> u64
+        ensures value { result ≡ self.now.place }
+        ensures most { result ≤ 2 ^ 36 }
+    {
+        self.cutter.place()
+    }
+
+    /// The next piece of the stretch, without what stands before its first unit and without its end code, so that no byte may
+    /// be left; None where no piece is left. After an error no call may follow.
+    pub fn next_piece<S: Source>(
+        &mut self,
+        alloc: Global,
+        input: &mut S,
+    ) -> Result<Option<Piece>, DecodeError>
+        requires { self.old.failed ≡ false }
+        ensures ok { IfOk result (Fed self.old (S.left input.old) self.new (S.left input.new)) }
+        ensures going { OnOk result (self.new.failed ≡ false) }
+        ensures err { IfErr result (Stopped self.old (S.left input.old) (S.left input.new)) }
+        ensures kind { IfErr result IsReading }
+        ensures failed { IsErrOf result DecodeError.Read
+            → Rose (S.faults input.old) (S.faults input.new) }
+        ensures faults { S.faults input.old ≤ S.faults input.new }
+    {
+        let piece = self.cutter.next_piece(alloc, input)?;
+        let bare = bared_if(alloc, piece)?;
+        Ok(bare)
+    }
+}
