@@ -22,7 +22,7 @@ GROUPS = {
     'The encoder': ('m2v_enc_', 'm2v_search', 'm2v_choose', 'm2v_rate', 'm2v_slice', 'm2v_encode'),
     'The decoder': ('m2v_dec', 'm2v_pardec'),
     'What is proved of whole streams: definitions and laws alone': ('m2v_law_',),
-    'Commands': ('m2v_flat', 'm2v_check', 'm2v_audit', 'm2v_cut', 'm2v_make', 'm2v_y4m', 'm2v_tool', 'm2v_main'),
+    'Commands': ('m2v_flat', 'm2v_check', 'm2v_audit', 'm2v_cut', 'm2v_mend', 'm2v_make', 'm2v_y4m', 'm2v_tool', 'm2v_main'),
     'Tests': ('m2v_test_',),
 }
 
