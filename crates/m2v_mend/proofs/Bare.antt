@@ -46,7 +46,7 @@ begins_more (a ∷ b ∷ c ∷ []) cs h = absurd cc
 begins_more (a ∷ b ∷ c ∷ v ∷ bs) cs h = h
 
 -- what is clear before more bytes is clear before the first of them
-clear_before : (j rest more : List ℕ) → Clear 0 j (rest ++ more) → Clear 0 j rest
+pub clear_before : (j rest more : List ℕ) → Clear 0 j (rest ++ more) → Clear 0 j rest
 clear_before j rest more h i le lt =
     let e : drop i (j ++ rest) ++ more ≡ drop i (j ++ (rest ++ more)) = sym (drop-append-le i (j ++ rest) more (omega (arith, length-append j rest))) ∙ ap (drop i) (append_assoc j rest more) in
     elim (cases_Bool (begins_code (drop i (j ++ rest)))) [
@@ -55,22 +55,22 @@ clear_before j rest more h i le lt =
     ]
 
 -- units behind such bytes, of which some may belong to later pieces
-record At (j : List ℕ) (vs us : Units) : Type 0 where
-  clear : Clear 0 j (joined (vs ++ us))
-  are : AreUnits (vs ++ us)
-  none : NoEnds vs
+pub record At (j : List ℕ) (vs us : Units) : Type 0 where
+  pub clear : Clear 0 j (joined (vs ++ us))
+  pub are : AreUnits (vs ++ us)
+  pub none : NoEnds vs
 
-at_clear : (j : List ℕ) (vs us : Units) → Clear 0 j (joined (vs ++ us)) → Clear 0 j (joined vs)
+pub at_clear : (j : List ℕ) (vs us : Units) → Clear 0 j (joined (vs ++ us)) → Clear 0 j (joined vs)
 at_clear j vs us h = clear_before j (joined vs) (joined us) (subst (Clear 0 j) (joined-append vs us) h)
 
 -- a piece that ends before other units
-bare_front : (j : List ℕ) (vs us : Units) → At j vs us → bare (j ++ joined vs) ≡ joined vs
+pub bare_front : (j : List ℕ) (vs us : Units) → At j vs us → bare (j ++ joined vs) ≡ joined vs
 bare_front j vs us at =
     let cuts : Cuts (j ++ joined vs) j vs = record { whole = refl; front_clear = at_clear j vs us at.clear; are_units = are_before vs us at.are } in
     ap (λ (x : List ℕ × Units). joined (to_end x.1)) (cuts_is (j ++ joined vs) j vs cuts) ∙ ap joined (before_none vs at.none)
 
 -- one that ends with an end code
-bare_code : (j : List ℕ) (vs : Units) (u : List ℕ) (us : Units) → At j vs (u ∷ us) → is_end (value_of u) ≡ true → bare ((j ++ joined vs) ++ take 4 u) ≡ joined vs
+pub bare_code : (j : List ℕ) (vs : Units) (u : List ℕ) (us : Units) → At j vs (u ∷ us) → is_end (value_of u) ≡ true → bare ((j ++ joined vs) ++ take 4 u) ≡ joined vs
 bare_code j vs u us at on =
     let code = vs ++ take 4 u ∷ [] in
     let same : joined code ≡ joined vs ++ take 4 u = joined-append vs (take 4 u ∷ []) ∙ ap (λ (l : List ℕ). joined vs ++ l) (append-nil (take 4 u)) in
@@ -91,7 +91,7 @@ bare_code j vs u us at on =
 
 -- ---- pieces
 
-bare_none : bare [] ≡ []
+pub bare_none : bare [] ≡ []
 unfolding cut to_end
 bare_none = refl
 
@@ -100,11 +100,11 @@ unfolding bare_pieces
 bare_one [] = ap piece_of (sym bare_none)
 bare_one (b ∷ w) = append-nil (piece_of (bare (b ∷ w)))
 
-bare_first : (w : List ℕ) (ws : List (List ℕ)) → bare_pieces (w ∷ ws) ≡ piece_of (bare w) ++ bare_pieces ws
+pub bare_first : (w : List ℕ) (ws : List (List ℕ)) → bare_pieces (w ∷ ws) ≡ piece_of (bare w) ++ bare_pieces ws
 unfolding bare_pieces
 bare_first w ws = refl
 
-no_pieces : bare_pieces [] ≡ []
+pub no_pieces : bare_pieces [] ≡ []
 unfolding bare_pieces
 no_pieces = refl
 
@@ -112,17 +112,17 @@ bare_one_piece : (w : List ℕ) → bare_pieces (w ∷ []) ≡ piece_of (bare w)
 unfolding bare_pieces
 bare_one_piece w = append-nil (piece_of (bare w))
 
-some_piece : (w : List ℕ) → 1 ≤ length w → piece_of w ≡ w ∷ []
+pub some_piece : (w : List ℕ) → 1 ≤ length w → piece_of w ≡ w ∷ []
 some_piece [] le = absurd (omega (arith, le))
 some_piece (b ∷ w) le = refl
 
 -- what is known of the bytes of a piece in its phase
-abbrev IsOpen : Phase → List ℕ → Type 0
+abbrev pub IsOpen : Phase → List ℕ → Type 0
 IsOpen Before w = ⊥
 IsOpen Headers w = Unit {0}
 IsOpen Picture w = 1 ≤ length w
 
-open_after : (value : ℕ) (w : List ℕ) → 1 ≤ length w → IsOpen (phase_after Headers value) w
+pub open_after : (value : ℕ) (w : List ℕ) → 1 ≤ length w → IsOpen (phase_after Headers value) w
 unfolding phase_after
 open_after value w le = by_case (nat_eq value 0x00)
   where
@@ -130,13 +130,13 @@ open_after value w le = by_case (nat_eq value 0x00)
     by_case true = le
     by_case false = tt
 
-grown : (j : List ℕ) (vs : Units) (u : List ℕ) → (j ++ joined vs) ++ u ≡ j ++ joined (vs ++ u ∷ [])
+pub grown : (j : List ℕ) (vs : Units) (u : List ℕ) → (j ++ joined vs) ++ u ≡ j ++ joined (vs ++ u ∷ [])
 grown j vs u =
     append_assoc j (joined vs) u
     ∙ ap (λ (l : List ℕ). j ++ (joined vs ++ l)) (sym (append-nil u))
     ∙ ap (λ (l : List ℕ). j ++ l) (sym (joined-append vs (u ∷ [])))
 
-at_more : (j : List ℕ) (vs : Units) (u : List ℕ) (us : Units) → At j vs (u ∷ us) → is_end (value_of u) ≡ false → At j (vs ++ u ∷ []) us
+pub at_more : (j : List ℕ) (vs : Units) (u : List ℕ) (us : Units) → At j vs (u ∷ us) → is_end (value_of u) ≡ false → At j (vs ++ u ∷ []) us
 at_more j vs u us at off =
     let same : vs ++ u ∷ us ≡ (vs ++ u ∷ []) ++ us = sym (append_assoc vs (u ∷ []) us) in
     record {
@@ -145,10 +145,10 @@ at_more j vs u us at off =
       none = more_goes vs u at.none off;
     }
 
-at_begin : (vs : Units) (u : List ℕ) (us : Units) → AreUnits (vs ++ u ∷ us) → is_end (value_of u) ≡ false → At [] (u ∷ []) us
+pub at_begin : (vs : Units) (u : List ℕ) (us : Units) → AreUnits (vs ++ u ∷ us) → is_end (value_of u) ≡ false → At [] (u ∷ []) us
 at_begin vs u us are off = record { clear = λ i le lt. absurd (omega (arith, lt)); are = are_behind vs (u ∷ us) are; none = (off, tt) }
 
-unit_long : (vs : Units) (u : List ℕ) (us : Units) → AreUnits (vs ++ u ∷ us) → 4 ≤ length u
+pub unit_long : (vs : Units) (u : List ℕ) (us : Units) → AreUnits (vs ++ u ∷ us) → 4 ≤ length u
 unit_long vs u us are = (are_behind vs (u ∷ us) are).0
 
 -- bytes that grow by a unit, on both sides
@@ -158,7 +158,7 @@ by_growth : (phase : Phase) (j : List ℕ) (vs : Units) (u : List ℕ) (us : Uni
 by_growth phase j vs u us h =
     ap (λ (x : List ℕ). bare_pieces (grouped phase x us)) (grown j vs u) ∙ h ∙ ap (λ (x : List ℕ). grouped phase x (to_end us)) (sym (grown [] vs u))
 
-long_more : (vs : Units) (u : List ℕ) → 4 ≤ length u → 1 ≤ length (joined (vs ++ u ∷ []))
+pub long_more : (vs : Units) (u : List ℕ) → 4 ≤ length u → 1 ≤ length (joined (vs ++ u ∷ []))
 long_more vs u le = omega (arith, le, ap length (grown [] vs u), length-append (joined vs) u)
 
 -- what holds of the units behind, whatever phase they are in

@@ -2,7 +2,7 @@
 use Rattle.std.proofs.Common.{◌≡◌, ◌≢◌, ℕ, ◌+◌, ◌-◌, ◌≤◌, ◌<◌, List, [], ◌∷◌, ◌++◌, length, take, drop, get_or, replicate, inl, inr, refl, sym, ap, subst, ◌∙◌, append-nil, arith}
 use Rattle.std.specs.Prelude.{vec_len, Result, Ok, Err, IfOk}
 use Rattle.std.proofs.lemmas.Bool.{cases_lt}
-use Rattle.std.proofs.lemmas.List.{length-append, length-replicate, drop-append-le, drop_all, get_or-replicate, get_or_past}
+use Rattle.std.proofs.lemmas.List.{length-append, length-replicate, drop-append-le, drop_all, nil_from_length}
 use Rattle.std.proofs.Math.Seq.{take-append_seam, get_or-append_right}
 use Rattle.m2v_model.specs.Units.{Units, cut, joined, AreUnits}
 use Rattle.m2v_model.proofs.CutLaws.{cut_cuts}
@@ -13,17 +13,8 @@ use Rattle.m2v_law_group.specs.Groups.{to_end}
 use Rattle.m2v_law_group.proofs.Texts.{code_bytes}
 use Rattle.m2v_mend.specs.declared.feed.Extent.{Extent}
 use Rattle.m2v_mend.specs.Feeding.{from_end, bare, IsPart, IsBare, IsExtent}
+use Rattle.m2v_mend.proofs.EditLaws.{zeros_get}
 use Rattle.m2v_mend.proofs.Stretched.{parted_bytes}
-
-none_there : (xs : List ℕ) → length xs ≡ 0 → xs ≡ []
-none_there [] e = refl
-none_there (x ∷ xs) e = absurd (omega (arith, e))
-
-zeros_there : (n k : ℕ) → get_or (replicate {A = ℕ} n 0) k 0 ≡ 0
-zeros_there n k = elim (cases_lt k n) [
-  | inl lt ↦ get_or-replicate n k 0 0 lt
-  | inr le ↦ get_or_past (replicate n 0) k 0 (omega (arith, le, length-replicate {A = ℕ} n 0))
-]
 
 module _ (p : Piece) (sound : IsSoundPiece p) (e : Extent) (is : IsExtent (whole_of p) e) where
   abbrev w : List ℕ
@@ -60,8 +51,8 @@ module _ (p : Piece) (sound : IsSoundPiece p) (e : Extent) (is : IsExtent (whole
   -- all of it
   pub all_bare : e.own ≡ p.length → IsBare p p.place w
   all_bare own =
-      let none = none_there j (omega (arith, own, all, front, inside)) in
-      let over = none_there (joined (from_end us)) (omega (arith, own, all, front, inside)) in
+      let none = nil_from_length j (omega (arith, own, all, front, inside)) in
+      let over = nil_from_length (joined (from_end us)) (omega (arith, own, all, front, inside)) in
       record {
         whole = (cut_cuts w).whole ∙ ap (λ (x : List ℕ). x ++ joined us) none ∙ parted_bytes us ∙ ap (λ (x : List ℕ). joined (to_end us) ++ x) over ∙ append-nil (joined (to_end us));
         at = omega (arith, ap length none);
@@ -72,7 +63,7 @@ module _ (p : Piece) (sound : IsSoundPiece p) (e : Extent) (is : IsExtent (whole
   -- no unit
   pub none_bare : (q : Piece) → e.units ≡ 0 → q.bytes.items ≡ [] → q.length ≡ 0 → q.place ≡ p.place + p.length → IsBare q p.place w
   none_bare q none bytes count place =
-      let nothing = none_there (bare w) (omega (arith, inside, none, is.own)) in
+      let nothing = nil_from_length (bare w) (omega (arith, inside, none, is.own)) in
       let zeros : q.length - vec_len q.bytes ≡ 0 = omega (arith, count) in
       record {
         whole = ap (λ (x : List ℕ). x ++ replicate (q.length - vec_len q.bytes) 0) bytes ∙ ap (λ (n : ℕ). replicate n 0) zeros ∙ sym nothing;
@@ -116,7 +107,7 @@ module _ (p : Piece) (sound : IsSoundPiece p) (e : Extent) (is : IsExtent (whole
         | inr le ↦
             let zeros = p.length - vec_len p.bytes in
             let long : length p.bytes.items ≤ i = omega (arith, le) in
-            let zero : get_or w i 0 ≡ 0 = get_or-append_right p.bytes.items (replicate zeros 0) i 0 long ∙ zeros_there zeros (i - length p.bytes.items) in
+            let zero : get_or w i 0 ≡ 0 = get_or-append_right p.bytes.items (replicate zeros 0) i 0 long ∙ zeros_get zeros (i - length p.bytes.items) in
             absurd (omega (arith, one, zero))
       ]
 

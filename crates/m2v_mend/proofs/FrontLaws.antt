@@ -30,7 +30,7 @@ split_sequence (u ∷ us) = elim (cases_Bool (is_sequence u)) [
   | inr off ↦ rw off (ap (λ (l : List ℕ). u ++ l) (split_sequence us) ∙ sym (append_assoc u (before_sequence us) (joined (from_sequence us))))
 ]
 
-from_units : (us : Units) → AreUnits us → AreUnits (from_sequence us)
+pub from_units : (us : Units) → AreUnits us → AreUnits (from_sequence us)
 unfolding from_sequence
 from_units [] are = tt
 from_units (u ∷ us) are = elim (cases_Bool (is_sequence u)) [ inl on ↦ rw on are | inr off ↦ rw off (from_units us are.3) ]

@@ -55,11 +55,11 @@ span_first t place before [] rest =
     rw (none, append-nil before) refl
 span_first t place before (q ∷ qs) rest = refl
 
-piece_begins : (g : Gathering) (p : List ℕ) → begins_step g.waiting p ≡ true → with_piece g p ≡ begun_with g p
+pub piece_begins : (g : Gathering) (p : List ℕ) → begins_step g.waiting p ≡ true → with_piece g p ≡ begun_with g p
 unfolding with_piece
 piece_begins g p on = rw on refl
 
-piece_joins : (g : Gathering) (p : List ℕ) → begins_step g.waiting p ≡ false → with_piece g p ≡ joined_with g p
+pub piece_joins : (g : Gathering) (p : List ℕ) → begins_step g.waiting p ≡ false → with_piece g p ≡ joined_with g p
 unfolding with_piece
 piece_joins g p off = rw off refl
 

@@ -10,7 +10,9 @@ use Rattle.m2v_law_group.specs.Groups.{to_end}
 use Rattle.m2v_decode.specs.m2v_dec_piece.declared.answer.Piece.{Piece}
 use Rattle.m2v_decode.specs.m2v_dec_piece.Sound.{IsSoundPiece}
 use Rattle.m2v_decode.specs.Decoding.{whole_of}
-use Rattle.m2v_mend.specs.Feeding.{from_end, IsPart}
+use Rattle.m2v_mend.specs.Editing.{zeros_in}
+use Rattle.m2v_mend.specs.Feeding.{from_end, IsPart, KeepsZeros}
+use Rattle.m2v_mend.proofs.EditLaws.{zeros_drop}
 use Rattle.m2v_mend.proofs.Stretched.{parted_bytes}
 
 -- bytes and zero bytes behind them: so many of both are so many of the bytes, and zero bytes
@@ -27,6 +29,17 @@ part_zeros xs own zeros le = elim (cases_lt (length xs) own) [
       let none : own - length (take own xs) ≡ 0 = omega (arith, length-take-le own xs (omega (arith, short))) in
       ap (λ (n : ℕ). take own xs ++ replicate n 0) none ∙ append-nil (take own xs) ∙ sym (take-append-le own xs (replicate zeros 0) (omega (arith, short)))
 ]
+
+-- the last zero bytes that are kept of a piece are those of a part of it, where zero bytes are left out there
+pub part_room : (p q : Piece) (before own : ℕ) → before + own ≤ p.length → q.bytes.items ≡ take own (drop before p.bytes.items) → q.length ≡ own → KeepsZeros p q
+part_room p q before own within bytes count room some k le =
+    let kept = drop before p.bytes.items in
+    let size = ap length bytes ∙ length-take own kept in
+    let left = length-drop before p.bytes.items in
+    let out : length kept < own = omega (arith, some, size, count, q.bytes.ok.0) in
+    let all : q.bytes.items ≡ kept = bytes ∙ take_all own kept (omega (arith, out)) in
+    let more : 0 < zeros_in p = omega (arith, out, left, within, p.bytes.ok.0) in
+    ap (λ (l : List ℕ). slice_index l k) all ∙ zeros_drop before p.bytes.items (zeros_in p) room more k (omega (arith, ap length all, le))
 
 module _ (p q : Piece) (before own : ℕ) (sound : IsSoundPiece p) (within : before + own ≤ p.length) (inside : before < vec_len p.bytes) (bytes : q.bytes.items ≡ take own (drop before p.bytes.items)) (count : q.length ≡ own) where
   abbrev kept : List ℕ

@@ -1,16 +1,18 @@
 -- The pieces of an input's stretches, as they are handed out.
-use Rattle.std.specs.Prelude.{◌≡◌, ℕ, ◌+◌, ◌≤◌, true, false, List, [], ◌∷◌, ◌++◌, length, Option, Some, None, if◌then◌else◌}
+use Rattle.std.specs.Prelude.{◌≡◌, ℕ, ◌+◌, ◌^◌, ◌<◌, ◌≤◌, true, false, List, [], ◌∷◌, ◌++◌, length, Option, Some, None, IfSome, if◌then◌else◌}
 use Rattle.m2v_port.specs.Port.{Moves}
 use Rattle.m2v_model.specs.Units.{Units, cut, joined}
 use Rattle.m2v_model.specs.Streams.{value_of}
-use Rattle.m2v_model.specs.Pieces.{is_end, piece_of}
+use Rattle.m2v_model.specs.Pieces.{is_end, piece_of, limit}
 use Rattle.m2v_decode.specs.m2v_dec_piece.declared.answer.Piece.{Piece}
 use Rattle.m2v_decode.specs.m2v_dec_piece.Sound.{IsSoundPiece}
 use Rattle.m2v_decode.specs.m2v_dec_piece.Cutting.{Cutting, start_of, left_of, follows_of}
 use Rattle.m2v_decode.specs.Decoding.{whole_of}
 use Rattle.m2v_mend.specs.declared.feed.Extent.{Extent}
 use Rattle.m2v_law_group.specs.Groups.{to_end}
-use Rattle.m2v_law_seam.specs.Spans.{Stretch, stretches_from}
+use Rattle.m2v_law_seam.specs.Spans.{units_of, Stretch, stretches_from}
+use Rattle.m2v_law_seam.specs.Strands.{has_end}
+use Rattle.m2v_mend.specs.Editing.{IsUnits, EndsInZeros, zeros_in}
 
 -- a piece without what stands before its first unit, and without the end code
 abbrev pub bare : List ℕ → List ℕ
@@ -54,8 +56,29 @@ AreBare (Some p) (Some q) = IsBare q p.place (whole_of p)
 
 -- the next piece, and the ones behind it; or none, and the place where the last one ended
 abbrev pub NextBare : Option Piece → ℕ → List (List ℕ) → Cutting → List (List ℕ) → Type 0
-NextBare (Some p) start pieces new left = (whole : List ℕ) × (pieces ≡ whole ∷ left) × IsBare p start whole × (new.place ≡ start + length whole)
+NextBare (Some p) start pieces new left =
+    (whole : List ℕ) × (pieces ≡ whole ∷ left) × IsBare p start whole × (new.place ≡ start + length whole) × (limit start 0 whole ≡ None)
 NextBare None start pieces new left = (pieces ≡ []) × (left ≡ []) × (new.place ≡ start) × (new.ended ≡ true)
+
+-- what is known of a piece that is handed out, whatever the source tells: it is units, of which none is an end code
+pub record IsOwn (p : Piece) : Type 0 where
+  pub units : IsUnits p
+  pub no_end : has_end (units_of (whole_of p)) ≡ false
+  pub sound : 1 ≤ p.length → IsSoundPiece p
+
+-- zero bytes enough are kept of it that its group header can be marked
+abbrev pub HasLastZeros : Piece → Type 0
+HasLastZeros p = EndsInZeros p.bytes.items (zeros_in p)
+
+-- so it is of a part of a piece, where it is of the piece
+abbrev pub KeepsZeros : Piece → Piece → Type 0
+KeepsZeros old new = HasLastZeros old → HasLastZeros new
+
+-- the same, where there is a piece
+abbrev pub KeepZeros : Option Piece → Option Piece → Type 0
+KeepZeros None q = Unit {0}
+KeepZeros (Some p) None = Unit {0}
+KeepZeros (Some p) (Some q) = KeepsZeros p q
 
 -- the next piece of the text that is held and left, where the source tells it
 pub record Fed (old : Cutting) (left : Option (List ℕ)) (new : Cutting) (left' : Option (List ℕ)) (piece : Option Piece) : Type 0 where
@@ -64,6 +87,12 @@ pub record Fed (old : Cutting) (left : Option (List ℕ)) (new : Cutting) (left'
   pub next : (rest : List ℕ) → left' ≡ Some rest → NextBare piece (start_of old (bytes ++ rest)) (left_of old (bytes ++ rest)) new (left_of new rest)
   pub behind : (rest : List ℕ) → left' ≡ Some rest → follows_of old (bytes ++ rest) ≡ follows_of new rest
   pub place : new.place + length new.unread ≡ (old.place + length old.unread) + length bytes
+  pub zeros : (rest : List ℕ) → left' ≡ Some rest → IfSome piece HasLastZeros
+
+-- a piece ends behind the place where the one before it ended, whatever the source tells, and the pieces go on
+abbrev pub IsOnward : Option Piece → Cutting → Cutting → Type 0
+IsOnward (Some q) old new = (old.place < new.place) × (new.place ≤ 2 ^ 36) × (new.begun ≡ true)
+IsOnward None old new = (old.place ≤ new.place) × (new.place ≤ 2 ^ 36)
 
 -- how many bytes the units of a piece have, and those before a sequence end code
 pub record IsExtent (whole : List ℕ) (e : Extent) : Type 0 where

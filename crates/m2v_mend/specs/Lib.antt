@@ -4,4 +4,17 @@ pub mod Heading
 pub mod Feeding
 pub mod Tail
 pub mod Strand
+pub mod Kept
 pub mod Gathering
+pub mod Members
+pub mod Copying
+pub mod Putting
+pub mod Making
+pub mod Mender
+pub mod Answers
+pub mod Folded
+pub use Rattle.m2v_law_seam.specs as m2v_law_seam
+pub mod Opening
+pub mod Alone
+pub mod Header
+pub mod Stretching

@@ -6,18 +6,15 @@ ghost use Rattle.m2v_decode.specs.m2v_dec_piece.Sound.{IsSoundPiece};
 ghost use Rattle.m2v_decode.specs.m2v_dec_piece.Cutting.{IsReading};
 ghost use Rattle.m2v_decode.specs.m2v_dec_piece.Stepping.{Stopped};
 ghost use Rattle.m2v_decode.specs.Decoding.{whole_of};
-ghost use Rattle.m2v_mend.specs.Feeding.{from_end, IsPart, IsBare, AreBare, IsExtent, Fed, nothing_read, within};
+ghost use Rattle.m2v_mend.specs.Feeding.{from_end, IsPart, IsBare, AreBare, IsExtent, IsOwn, KeepsZeros, KeepZeros, Fed, IsOnward, nothing_read, within};
 
 use crate::Memory;
-use crate::walk::units;
+use crate::walk::{END, units};
 use m2v_dec_unit::UnitReader;
 use m2v_decode::{Cutter, DecodeError, Piece};
 use m2v_port::Source;
 use std::alloc::Global;
 use std::marker::Model;
-
-/// The value of a sequence end code.
-const END: u8 = 0xB7;
 
 /// How many bits units have from the first sequence end code on.
 #[tactic(auto, unfolding(crate::specs::Feeding::from_end, m2v_model::specs::Pieces::is_end))]
@@ -52,8 +49,9 @@ fn part(alloc: Global, piece: &Piece, before: u64, own: u64) -> Result<Piece, Me
     requires sound { IsSoundPiece piece.now }
     requires within { before + own ≤ piece.now.length }
     requires some { before < vec_len piece.now.bytes }
-    ensures { IfOk result (λ p. IsPart p (piece.now.place + before)
+    ensures whole { IfOk result (λ p. IsPart p (piece.now.place + before)
         (take own (drop before (whole_of piece.now)))) }
+    ensures zeros { IfOk result (KeepsZeros piece.now) }
 {
     let bytes = bytes_of(alloc, &piece.bytes, before as usize, own)?;
     Ok(Piece {
@@ -86,7 +84,8 @@ fn measured(piece: &Piece) -> Extent
 /// A piece without what stands before its first unit, and without a sequence end code.
 fn bared(alloc: Global, piece: Piece) -> Result<Piece, Memory>
     requires { IsSoundPiece piece }
-    ensures { IfOk result (λ p. IsBare p piece.place (whole_of piece)) }
+    ensures bare { IfOk result (λ p. IsBare p piece.place (whole_of piece)) }
+    ensures zeros { IfOk result (KeepsZeros piece) }
 {
     let extent = measured(&piece);
     if extent.own == piece.length {
@@ -105,7 +104,8 @@ fn bared(alloc: Global, piece: Piece) -> Result<Piece, Memory>
 /// The same, where there is a piece.
 fn bared_if(alloc: Global, piece: Option<Piece>) -> Result<Option<Piece>, Memory>
     requires { IfSome piece IsSoundPiece }
-    ensures { IfOk result (AreBare piece) }
+    ensures bare { IfOk result (AreBare piece) }
+    ensures zeros { IfOk result (KeepZeros piece) }
 {
     match piece {
         None => Ok(None),
@@ -167,12 +167,15 @@ impl Feed {
     ) -> Result<Option<Piece>, DecodeError>
         requires { self.old.failed ≡ false }
         ensures ok { IfOk result (Fed self.old (S.left input.old) self.new (S.left input.new)) }
+        ensures own { IfOk result (λ o. IfSome o IsOwn) }
+        ensures onward { IfOk result (λ o. IsOnward o self.old self.new) }
         ensures going { OnOk result (self.new.failed ≡ false) }
         ensures err { IfErr result (Stopped self.old (S.left input.old) (S.left input.new)) }
         ensures kind { IfErr result IsReading }
         ensures failed { IsErrOf result DecodeError.Read
             → Rose (S.faults input.old) (S.faults input.new) }
         ensures faults { S.faults input.old ≤ S.faults input.new }
+        ensures most { self.old.place ≤ 2 ^ 36 }
     {
         let piece = self.cutter.next_piece(alloc, input)?;
         let bare = bared_if(alloc, piece)?;

@@ -7,6 +7,7 @@ ghost use Rattle.m2v_law_group.specs.Groups.{coded_pictures, is_picture};
 ghost use Rattle.m2v_law_seam.specs.Spans as spans;
 ghost use Rattle.m2v_law_seam.specs.Spans.{units_of, number_or, field_by, first_field};
 ghost use Rattle.m2v_law_seam.specs.Faults.{before_picture};
+ghost use Rattle.m2v_mend.specs.Gathering as gathering;
 ghost use Rattle.m2v_mend.specs.Telling.{IsInfo, IsCounted, first_kind, unit_or_none, pictures_with, place_with, counted_with};
 
 use crate::walk::{
@@ -254,7 +255,7 @@ pub fn waits_behind(waiting: u32, info: &PieceInfo) -> u32
 /// A step begins at the piece: at each entry, and at each I or P picture that isn't the second field of a frame.
 pub fn begins_step(waiting: u32, info: &PieceInfo) -> bool
     ensures { (p : List ℕ) → IsInfo (units_of p) info.now
-        → result ≡ (spans.is_entry p || (spans.is_anchor_piece p && not (spans.is_second waiting p))) }
+        → result ≡ gathering.begins_step waiting p }
 {
     let entry = info.is_entry();
     let anchor = info.is_anchor();

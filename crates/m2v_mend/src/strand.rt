@@ -110,6 +110,7 @@ impl Strand {
         ensures ready { IfOk result (λ o. o ≡ None → IsReady self.new) }
         ensures bytes { IfOk result (λ o. o ≡ None
             → self.new.bytes ≡ self.old.bytes + piece.now.length) }
+        ensures opening { IfOk result (λ o. o ≡ None → self.new.opening ≡ self.old.opening) }
     {
         match self.reader.piece(alloc, piece) {
             Ok(notes) => {
@@ -130,6 +131,7 @@ impl Strand {
         ensures told { IfOk result (λ o. (d : Decoding) → Follows self.old.reading d
             → WalkTold d self.old pieces.now o self.new) }
         ensures ready { IfOk result (λ o. o ≡ None → IsReady self.new) }
+        ensures opening { IfOk result (λ o. o ≡ None → self.new.opening ≡ self.old.opening) }
     {
         for piece in pieces {
             if let Some(fault) = self.piece(alloc, piece)? {
@@ -182,6 +184,7 @@ impl Strand {
             → CanGoBehind bytes (wholes_of pieces.now)
             → Told at.decoder self.old first.now bytes pieces.now o self.new) }
         ensures ready { IfOk result (λ o. o ≡ None → IsReady self.new) }
+        ensures opening { IfOk result (λ o. o ≡ None → self.new.opening ≡ self.old.opening) }
     {
         let Some(last) = pieces.last() else {
             return Ok(None);

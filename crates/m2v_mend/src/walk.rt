@@ -11,12 +11,14 @@ ghost use Rattle.m2v_mend.specs.Editing.{zeros_in};
 use m2v_dec_unit::{Unit, UnitReader};
 use m2v_decode::Piece;
 
-/// The values of units: a picture, the sequence header, an extension and a group header.
+/// The values of units: a picture, the sequence header, an extension, the sequence end code and a group header.
 pub const PICTURE: u8 = 0x00;
 
 pub const SEQUENCE: u8 = 0xB3;
 
 pub const EXTENSION: u8 = 0xB5;
+
+pub const END: u8 = 0xB7;
 
 pub const GROUP: u8 = 0xB8;
 

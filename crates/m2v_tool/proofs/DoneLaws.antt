@@ -32,6 +32,15 @@ use Rattle.m2v_audit.specs.declared.outcome.Ending.TheVariants as audits
 use Rattle.m2v_audit.specs.declared.words.LimitKind.TheVariants as limits
 use Rattle.m2v_audit.specs.declared.records.TotalRecord.{TotalRecord}
 use Rattle.m2v_audit.specs.declared.asked.Asked.{Asked}
+use Rattle.m2v_cut.specs.m2v_decode.Answers.{OfText}
+use Rattle.m2v_mend.specs.declared.answer.Answer.{Answer}
+use Rattle.m2v_mend.specs.declared.answer.Answer.TheVariants as answers
+use Rattle.m2v_mend.specs.declared.answer.MendError.{MendError}
+use Rattle.m2v_mend.specs.declared.answer.MendError.TheVariants as mend_errors
+use Rattle.m2v_mend.specs.Answers.{answer_told, IsMended}
+use Rattle.m2v_mend.specs.m2v_law_seam.Told.{status_of}
+use Rattle.m2v_tool.specs.declared.mend.MendOutcome.{MendOutcome}
+use Rattle.m2v_tool.specs.declared.mend.MendOutcome.TheVariants as mends
 use Rattle.m2v_tool.specs.declared.audit.AuditOutcome.{AuditOutcome}
 use Rattle.m2v_tool.specs.declared.audit.AuditOutcome.TheVariants.{Reported, Stopped}
 use Rattle.m2v_tool.specs.declared.flat.FlatOutcome.{FlatOutcome}
@@ -62,6 +71,7 @@ use Rattle.m2v_tool.specs.Encoding.{EncodeDone, EncodeComes, encoding_stopped, u
 use Rattle.m2v_tool.specs.Decoding.{DecodeDone, DecodeComes, decoding_stopped, shown_ending, decode_ending}
 use Rattle.m2v_tool.specs.Checking.{CheckComes, HasPassed, lawful_ending, variable_ending, account_ending, verdict_ending, check_ending}
 use Rattle.m2v_tool.specs.Auditing.{AuditDone, AuditComes, clean_ending, found_ending, whole_ending, limit_ending, audited_ending, audit_ending}
+use Rattle.m2v_tool.specs.Mending.{MendComes, MendDone, told_ending, mended_ending, mending_stopped, mend_ending}
 use Rattle.m2v_tool.specs.Making.{MakeComes, made_ending, making_stopped, make_ending}
 use Rattle.m2v_tool.specs.Cutting.{CutDone, CutComes, none_asked, cutting_stopped, cut_out_ending, cut_ending}
 use Rattle.m2v_tool.specs.Packing.{PackDone, PackComes, UnpackComes, y4m_fault, packed_ending, packing_stopped, unpacking_stopped, pack_ending, unpack_ending}
@@ -286,6 +296,36 @@ audit_done r w (Reported o) c told none = audit_by r w o.totals o.ending c told 
 audit_done r w (Stopped e) c told none = refused (decoding_stopped e) r told (decode_stops e) none
 
 -- where no endpoint fails, success is told, unless memory runs out
+mend_stops : (e : MendError) → IsRefusal (mending_stopped e)
+unfolding mending_stopped ending_past
+mend_stops mend_errors.Read = (6, refl)
+mend_stops mend_errors.Write = (7, refl)
+mend_stops mend_errors.TooLong = (12, refl)
+mend_stops mend_errors.PictureTooLarge = (13, refl)
+mend_stops mend_errors.Memory = (11, refl)
+
+mended_by : (r : Run) (a : Answer) → OfText r.input (λ text. IsMended text r.output a) → Told (mended_ending a) r.status r.report → r.status ≡ 0 → Success (MendDone r.input r.output) mended_ending r.report
+unfolding told_ending
+mended_by r (answers.AllKept groups pictures bytes) c t none =
+    let a = answers.AllKept groups pictures bytes in
+    record { outcome = a; is = record { mended = c; all = refl }; line = line (mended_ending a) r t none }
+mended_by r (answers.SomeKept groups of_groups pictures of_pictures bytes) c t none = refused (mended_ending (answers.SomeKept groups of_groups pictures of_pictures bytes)) r t (17, refl) none
+mended_by r (answers.NoneKept fault) c t none = refused (mended_ending (answers.NoneKept fault)) r t (18, refl) none
+
+pub mend_done : (r : Run) (o : MendOutcome) → MendComes r.input r.output o → Told (mend_ending o) r.status r.report → r.status ≡ 0 → Success (MendDone r.input r.output) mended_ending r.report
+unfolding MendComes mend_ending
+mend_done r (mends.Mended a) c t none = mended_by r a c t none
+mend_done r (mends.Stopped e) c t none = refused (mending_stopped e) r t (mend_stops e) none
+
+-- no picture was left out
+pub all_told : (r : Run) (a : Answer) → status_of (answer_told a) ≡ 0 → NoneFailed r → Told (mended_ending a) r.status r.report → Succeeds r
+unfolding told_ending
+all_told r (answers.AllKept groups pictures bytes) all well (whole is g) = inl is
+all_told r a all well (cut (inl is) g) = inr is
+all_told r a all well (cut (inr is) g) = absurd (well.report is.0)
+all_told r (answers.SomeKept groups of_groups pictures of_pictures bytes) all well (whole is g) = absurd (omega (arith, all))
+all_told r (answers.NoneKept fault) all well (whole is g) = absurd (omega (arith, all))
+
 pub clean_told : (r : Run) (t : TotalRecord) → NoneFailed r → Told (clean_ending t) r.status r.report → Succeeds r
 unfolding clean_ending
 clean_told r t well (whole is g) = inl is

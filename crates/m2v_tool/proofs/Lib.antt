@@ -9,6 +9,7 @@ pub mod PackingLaws
 pub mod DecodingLaws
 pub mod CheckingLaws
 pub mod AuditingLaws
+pub mod MendingLaws
 pub mod EncodingLaws
 pub mod Y4mCodingLaws
 pub mod MakingLaws

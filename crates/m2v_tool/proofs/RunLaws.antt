@@ -3,7 +3,7 @@ use Rattle.std.proofs.Common.{◌≡◌, inr, refl, subst}
 use Rattle.m2v_tool.specs.declared.command.Command.{Command}
 use Rattle.m2v_tool.specs.declared.command.Command.TheVariants as commands
 use Rattle.m2v_tool.specs.declared.command.Outcome.{Outcome}
-use Rattle.m2v_tool.specs.declared.command.Outcome.TheVariants.{Usage, NoMemory, Flat, Encode, Decode, Check, Audit, Make, Cut, Pack, Unpack, EncodeY4m}
+use Rattle.m2v_tool.specs.declared.command.Outcome.TheVariants.{Usage, NoMemory, Flat, Encode, Decode, Check, Audit, Mend, Make, Cut, Pack, Unpack, EncodeY4m}
 use Rattle.m2v_tool.specs.EncodeWords.{Meant, words_of}
 use Rattle.m2v_tool.specs.Encoding.{EncodeKeeps}
 use Rattle.m2v_tool.specs.Y4mCoding.{Y4mKeeps}
@@ -19,6 +19,7 @@ use Rattle.m2v_tool.proofs.Y4mCodingLaws.{y4m_keeps, y4m_unread}
 use Rattle.m2v_tool.proofs.DecodingLaws.{decode_keeps, decode_unread}
 use Rattle.m2v_tool.proofs.CheckingLaws.{check_keeps, check_unread}
 use Rattle.m2v_tool.proofs.AuditingLaws.{audit_keeps, audit_unread}
+use Rattle.m2v_tool.proofs.MendingLaws.{mend_keeps, mend_unread}
 use Rattle.m2v_tool.proofs.MakingLaws.{make_keeps, make_unread}
 use Rattle.m2v_tool.proofs.CuttingLaws.{cut_keeps, cut_unread}
 use Rattle.m2v_tool.proofs.PackingLaws.{pack_keeps, pack_unread, unpack_keeps, unpack_unread}
@@ -33,6 +34,7 @@ module _ (r : Run) where
   refused_by (Decode o) c t none = absurd (none (commands.Decode c.0) c.1)
   refused_by (Check o) c t none = absurd (none commands.Check c.0)
   refused_by (Audit o) c t none = absurd (none (commands.Audit c.0) c.1)
+  refused_by (Mend o) c t none = absurd (none commands.Mend c.0)
   refused_by (Make o) c t none = absurd (none (commands.Make c.0) c.1)
   refused_by (Cut o) c t none = absurd (none (commands.Cut c.0) c.1)
   refused_by (Pack o) c t none = absurd (none (commands.Pack c.0) c.1)
@@ -46,6 +48,7 @@ module _ (r : Run) where
   unread_by untouched is (commands.Decode workers) = decode_unread r workers untouched is
   unread_by untouched is commands.Check = check_unread r is
   unread_by untouched is (commands.Audit w) = audit_unread r w untouched is
+  unread_by untouched is commands.Mend = mend_unread r is
   unread_by untouched is (commands.Make seed) = make_unread r seed is
   unread_by untouched is (commands.Cut w) = cut_unread r w untouched is
   unread_by untouched is (commands.Pack h) = pack_unread r h untouched is
@@ -67,6 +70,7 @@ module _ (r : Run) where
   keeps_by (Decode o) c t d means = same_keeps (commands.Decode c.0) d c.1 means (decode_keeps r c.0 o c.2 t c.3)
   keeps_by (Check o) c t d means = same_keeps commands.Check d c.0 means (check_keeps r o c.1 t)
   keeps_by (Audit o) c t d means = same_keeps (commands.Audit c.0) d c.1 means (audit_keeps r c.0 o c.2 t)
+  keeps_by (Mend o) c t d means = same_keeps commands.Mend d c.0 means (mend_keeps r o c.1 t)
   keeps_by (Make o) c t d means = same_keeps (commands.Make c.0) d c.1 means (make_keeps r c.0 o c.2 t)
   keeps_by (Cut o) c t d means = same_keeps (commands.Cut c.0) d c.1 means (cut_keeps r c.0 o c.2 t c.3)
   keeps_by (Pack o) c t d means = same_keeps (commands.Pack c.0) d c.1 means (pack_keeps r c.0 o c.2 t c.3)

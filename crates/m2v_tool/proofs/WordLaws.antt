@@ -9,7 +9,7 @@ use Rattle.m2v_tool.specs.declared.encode.EncodeWords.{EncodeWords}
 use Rattle.m2v_audit.specs.declared.asked.Asked.{Asked}
 use Rattle.m2v_tool.specs.declared.cut.CutWords.{CutWords}
 use Rattle.m2v_tool.specs.declared.command.Command.{Command}
-use Rattle.m2v_tool.specs.declared.command.Command.TheVariants.{Flat, Encode, Decode, Check, Audit, Make, Cut, Pack, Unpack, EncodeY4m}
+use Rattle.m2v_tool.specs.declared.command.Command.TheVariants.{Flat, Encode, Decode, Check, Audit, Mend, Make, Cut, Pack, Unpack, EncodeY4m}
 use Rattle.m2v_tool.specs.EncodeWords.{encode_meant, words_of}
 use Rattle.m2v_tool.specs.Decoding.{decode_meant}
 use Rattle.m2v_tool.specs.Auditing.{audit_meant}
@@ -27,6 +27,7 @@ data Kind : Type 0 where
   decodes : Kind
   checks : Kind
   audits : Kind
+  mends : Kind
   makes : Kind
   cuts : Kind
   packs : Kind
@@ -39,6 +40,7 @@ kind_of (Encode w) = encodes
 kind_of (Decode workers) = decodes
 kind_of Check = checks
 kind_of (Audit w) = audits
+kind_of Mend = mends
 kind_of (Make seed) = makes
 kind_of (Cut w) = cuts
 kind_of (Pack h) = packs
@@ -53,6 +55,7 @@ kind_named name =
     else if bytes_eq name (codes "decode") then decodes
     else if bytes_eq name (codes "check") then checks
     else if bytes_eq name (codes "audit") then audits
+    else if bytes_eq name (codes "mend") then mends
     else if bytes_eq name (codes "make") then makes
     else if bytes_eq name (codes "cut") then cuts
     else if bytes_eq name (codes "pack") then packs
@@ -65,6 +68,7 @@ by_name name others (Encode w) m = ap kind_named m.0
 by_name name others (Decode workers) m = ap kind_named m.0
 by_name name others Check m = ap kind_named m.0
 by_name name others (Audit w) m = ap kind_named m.0
+by_name name others Mend m = ap kind_named m.0
 by_name name others (Make seed) m = ap kind_named m.0
 by_name name others (Cut w) m = ap kind_named m.0
 by_name name others (Pack h) m = ap kind_named m.0
@@ -78,6 +82,7 @@ Payload encodes = EncodeWords
 Payload decodes = ℕ
 Payload checks = Unit {0}
 Payload audits = Asked
+Payload mends = Unit {0}
 Payload makes = ℕ
 Payload cuts = CutWords
 Payload packs = Y4mHeader
@@ -90,6 +95,7 @@ payload (Encode w) = w
 payload (Decode workers) = workers
 payload Check = tt
 payload (Audit w) = w
+payload Mend = tt
 payload (Make seed) = seed
 payload (Cut w) = w
 payload (Pack h) = h
@@ -103,6 +109,7 @@ command_of encodes w = Encode w
 command_of decodes workers = Decode workers
 command_of checks u = Check
 command_of audits w = Audit w
+command_of mends u = Mend
 command_of makes seed = Make seed
 command_of cuts w = Cut w
 command_of packs h = Pack h
@@ -115,6 +122,7 @@ again (Encode w) = refl
 again (Decode workers) = refl
 again Check = refl
 again (Audit w) = refl
+again Mend = refl
 again (Make seed) = refl
 again (Cut w) = refl
 again (Pack h) = refl
@@ -128,6 +136,7 @@ Says encodes others w = encode_meant others ≡ Some (words_of w)
 Says decodes others workers = decode_meant others ≡ Some workers
 Says checks others u = Unit {0}
 Says audits others w = audit_meant others ≡ Some w
+Says mends others u = Unit {0}
 Says makes others seed = make_meant others ≡ Some seed
 Says cuts others w = cut_meant others ≡ Some w
 Says packs others h = pack_meant others ≡ Some h
@@ -140,6 +149,7 @@ said name others (Encode w) m = m.1
 said name others (Decode workers) m = m.1
 said name others Check m = tt
 said name others (Audit w) m = m.1
+said name others Mend m = tt
 said name others (Make seed) m = m.1
 said name others (Cut w) m = m.1
 said name others (Pack h) m = m.1
@@ -162,6 +172,7 @@ module _ (P : Command → Type 0) (alike : (v w : EncodeWords) → words_of v �
   one_payload decodes others x y f g p = subst (λ (n : ℕ). P (Decode n)) (one_some _ x y f g) p
   one_payload checks others x y f g p = p
   one_payload audits others x y f g p = subst (λ (w : Asked). P (Audit w)) (one_some _ x y f g) p
+  one_payload mends others x y f g p = p
   one_payload makes others x y f g p = subst (λ (n : ℕ). P (Make n)) (one_some _ x y f g) p
   one_payload cuts others x y f g p = subst (λ (w : CutWords). P (Cut w)) (one_some _ x y f g) p
   one_payload packs others x y f g p = subst (λ (h : Y4mHeader). P (Pack h)) (one_some _ x y f g) p

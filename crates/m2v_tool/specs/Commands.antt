@@ -18,6 +18,7 @@ use Rattle.m2v_tool.specs.Encoding.{EncodeComes, EncodeKeeps, encode_ending}
 use Rattle.m2v_tool.specs.Decoding.{DecodeComes, DecodeKeeps, decode_ending}
 use Rattle.m2v_tool.specs.Checking.{CheckComes, CheckKeeps, check_ending}
 use Rattle.m2v_tool.specs.Auditing.{AuditComes, AuditKeeps, audit_ending}
+use Rattle.m2v_tool.specs.Mending.{MendComes, MendKeeps, mend_ending}
 use Rattle.m2v_tool.specs.Making.{MakeComes, MakeKeeps, make_ending}
 use Rattle.m2v_tool.specs.Cutting.{CutComes, CutKeeps, cut_ending}
 use Rattle.m2v_tool.specs.Y4mCoding.{Y4mComes, Y4mKeeps, y4m_ending}
@@ -41,6 +42,8 @@ Comes words k (outcomes.Check o) =
 Comes words k (outcomes.Audit o) =
     (w : Asked) × Means words (commands.Audit w) × AuditComes w k.input k.output o
     × k.recon.Unchanged
+Comes words k (outcomes.Mend o) =
+    Means words commands.Mend × MendComes k.input k.output o × k.recon.Unchanged
 Comes words k (outcomes.Make o) =
     (seed : ℕ) × Means words (commands.Make seed) × MakeComes seed k.output o
     × k.input.Unchanged × k.recon.Unchanged
@@ -64,6 +67,7 @@ ending_of (outcomes.Encode o) = encode_ending o
 ending_of (outcomes.Decode o) = decode_ending o
 ending_of (outcomes.Check o) = check_ending o
 ending_of (outcomes.Audit o) = audit_ending o
+ending_of (outcomes.Mend o) = mend_ending o
 ending_of (outcomes.Make o) = make_ending o
 ending_of (outcomes.Cut o) = cut_ending o
 ending_of (outcomes.Pack o) = pack_ending o
@@ -77,6 +81,7 @@ Keeps (commands.Encode w) r = EncodeKeeps (words_of w) r
 Keeps (commands.Decode workers) r = DecodeKeeps workers r
 Keeps commands.Check r = CheckKeeps r
 Keeps (commands.Audit w) r = AuditKeeps w r
+Keeps commands.Mend r = MendKeeps r
 Keeps (commands.Make seed) r = MakeKeeps seed r
 Keeps (commands.Cut w) r = CutKeeps w r
 Keeps (commands.Pack h) r = PackKeeps h r

@@ -8,6 +8,7 @@ pub mod Coding
 pub mod Decoding
 pub mod Checking
 pub mod Auditing
+pub mod Mending
 pub mod Encoding
 pub mod Making
 pub mod Commands

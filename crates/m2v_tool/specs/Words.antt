@@ -8,7 +8,7 @@ use Rattle.m2v_set.specs.declared.unfit.Unfit.{Unfit}
 use Rattle.m2v_flat.specs.declared.settings.FlatSettings.{FlatSettings}
 use Rattle.m2v_tool.specs.declared.flat.FlatWords.{FlatWords}
 use Rattle.m2v_tool.specs.declared.command.Command.{Command}
-use Rattle.m2v_tool.specs.declared.command.Command.TheVariants.{Flat, Encode, Decode, Check, Audit, Make, Cut, Pack, Unpack, EncodeY4m}
+use Rattle.m2v_tool.specs.declared.command.Command.TheVariants.{Flat, Encode, Decode, Check, Audit, Mend, Make, Cut, Pack, Unpack, EncodeY4m}
 use Rattle.m2v_tool.specs.EncodeWords.{encode_meant, words_of}
 use Rattle.m2v_tool.specs.Decoding.{decode_meant}
 use Rattle.m2v_tool.specs.Auditing.{audit_meant}
@@ -47,6 +47,7 @@ MeansBy name others (Decode workers) =
 MeansBy name others Check =
     (name ≡ codes "check") × (stands_alone (codes "check") others ≡ true)
 MeansBy name others (Audit w) = (name ≡ codes "audit") × (audit_meant others ≡ Some w)
+MeansBy name others Mend = (name ≡ codes "mend") × (stands_alone (codes "mend") others ≡ true)
 MeansBy name others (Make seed) = (name ≡ codes "make") × (make_meant others ≡ Some seed)
 MeansBy name others (Cut w) = (name ≡ codes "cut") × (cut_meant others ≡ Some w)
 MeansBy name others (Pack h) = (name ≡ codes "pack") × (pack_meant others ≡ Some h)

@@ -12,6 +12,7 @@ use crate::encode::{EncodeOutcome, EncodeWords, encode_words};
 use crate::encode_y4m::{Y4mOutcome, y4m_words};
 use crate::flat::{FlatOutcome, FlatWords, flat_words};
 use crate::make::{MakeOutcome, make_words};
+use crate::mend::{MendOutcome, mend_words};
 use crate::pack::{PackOutcome, pack_words};
 use crate::report::{Report, no_memory, usage};
 use crate::unpack::{UnpackOutcome, unpack_words};
@@ -32,6 +33,8 @@ pub enum Command {
     Check,
     /// All that is wrong with a stream is reported.
     Audit(Asked),
+    /// What decodes of an input is copied.
+    Mend,
     /// The stream of a seed is made.
     Make(u64),
     /// Groups of a stream are copied.
@@ -61,6 +64,8 @@ pub enum Outcome {
     Check(CheckOutcome),
     /// What came of `audit`.
     Audit(AuditOutcome),
+    /// What came of `mend`.
+    Mend(MendOutcome),
     /// What came of `make`.
     Make(MakeOutcome),
     /// What came of `cut`.
@@ -87,6 +92,7 @@ impl Outcome {
             Outcome::Decode(outcome) => outcome.report(alloc),
             Outcome::Check(outcome) => outcome.report(alloc),
             Outcome::Audit(outcome) => outcome.report(alloc),
+            Outcome::Mend(outcome) => outcome.report(alloc),
             Outcome::Make(outcome) => outcome.report(alloc),
             Outcome::Cut(outcome) => outcome.report(alloc),
             Outcome::Pack(outcome) => outcome.report(alloc),
@@ -123,6 +129,10 @@ fn meant_by(alloc: Global, name: &str, others: &[String]) -> Result<Option<Comma
             Some(meant) => Ok(Some(Command::Audit(meant))),
             None => Ok(None),
         },
+        "mend" => {
+            let taken = mend_words(alloc, others)?;
+            Ok(taken.then_some(Command::Mend))
+        }
         "make" => match make_words(alloc, others)? {
             Some(seed) => Ok(Some(Command::Make(seed))),
             None => Ok(None),

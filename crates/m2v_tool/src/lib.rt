@@ -10,6 +10,7 @@ mod encode;
 mod encode_y4m;
 mod flat;
 mod make;
+mod mend;
 mod pack;
 mod report;
 mod top;

@@ -70,3 +70,9 @@ unfolding Comes
 returns-in-Ok-Some-Audit-clause-comes g c =
     let read = c.in-Ok-Some-Audit in
     (_, means_of _ _ _ _ read.field-0-is read.field-0-0-is read.ensures.found, c.audited.ensures.comes, refl)
+
+pub returns-in-Ok-Some-Mend-clause-comes : goal.returns-in-Ok-Some-Mend-clause-comes
+unfolding Comes
+returns-in-Ok-Some-Mend-clause-comes g c =
+    let read = c.in-Ok-Some-Mend in
+    (means_of _ _ _ _ read.field-0-is read.field-0-0-is read.ensures.found, c.mended.ensures.comes, refl)

@@ -1,9 +1,9 @@
-use Rattle.std.proofs.Common.{refl, arith}
+use Rattle.std.proofs.Common.{refl, ◌∙◌, arith}
 use Rattle.m2v_mend.proofs.Stepping.{walked_none, walked_more, halts_at, bytes_left}
 use Rattle.m2v_mend.proofs.strand.Strand.pieces.Goals as goal
 
 pub loop-piece-init : goal.loop-piece-init
-loop-piece-init c = record { walked = λ d f. walked_none d _ f; ready = c.requires.ready; total = refl }
+loop-piece-init c = record { walked = λ d f. walked_none d _ f; ready = c.requires.ready; total = refl; opening = refl }
 
 pub returns-in-Some-clause-told : goal.returns-in-Some-clause-told
 returns-in-Some-clause-told c =
@@ -21,4 +21,5 @@ loop-piece-preserved c =
       walked = λ d f. walked_more d _ _ _ c.args.pieces.now c.loop-piece.piece-index c.piece-item.result c.loop-piece-test.true c.piece-item.is (inv.walked d f) told;
       ready = ready;
       total = omega (arith, bytes, left, inv.total);
+      opening = c.in_ok-fault.ensures.opening c.in_default.is ∙ inv.opening;
     }

@@ -9,4 +9,5 @@ invariant-loop-piece l = record {
   walked : (d : Decoding) → Follows l.fn.self.reading d → Walked d l.fn.self (take l.piece-index l.pieces) l.self;
   ready : IsReady l.self;
   total : l.self.bytes + bytes_in (drop l.piece-index l.pieces) ≡ l.fn.self.bytes + bytes_in l.fn.pieces;
+  opening : l.self.opening ≡ l.fn.self.opening;
 }

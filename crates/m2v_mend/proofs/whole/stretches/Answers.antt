@@ -1,0 +1,23 @@
+use Rattle.std.proofs.Common.{refl, arith}
+use Rattle.std.proofs.lemmas.Result.{err_from_is_err_and}
+use Rattle.m2v_port.proofs.Runs.{stays_on}
+use Rattle.m2v_mend.proofs.Coming.{goes_on}
+use Rattle.m2v_mend.proofs.whole.stretches.Goals as goal
+
+pub loop-feed-preserved : goal.loop-feed-preserved
+loop-feed-preserved g c =
+    let inv = c.loop-feed.invariant in
+    rw c.go_on.ensures (record {
+      told = λ first start h. goes_on _ c.stretch.new.feed c.stretch.new.folding first _ start _ (c.in_ok-stretch.ensures.told first start (inv.told first start h));
+      going = c.in_ok-stretch.ensures.going;
+      begun = refl;
+      still = refl;
+      ready = c.in_ok-stretch.ensures.ready;
+      output = stays_on inv.output c.stretch.ensures.output;
+      input = omega (arith, inv.input, c.stretch.ensures.input);
+    })
+
+pub returns-in_err-stretch-clause-past : goal.returns-in_err-stretch-clause-past
+returns-in_err-stretch-clause-past g c =
+    let p = err_from_is_err_and c.from_residual.result c.from_residual.ensures.1 in
+    rw (p.1, p.2) (λ first start h. c.in_err-stretch.ensures.past first start (c.loop-feed.invariant.told first start h))

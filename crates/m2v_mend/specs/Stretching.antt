@@ -1,0 +1,211 @@
+-- Mending under way: what was written, and what is made of what is left of an input.
+use Rattle.std.specs.Prelude.{◌≡◌, ℕ, ◌+◌, ◌-◌, ◌≤◌, nat_eq, if◌then◌else◌, Bool, false, true, List, [], ◌∷◌, ◌++◌, length, Option, Some, None}
+use Rattle.m2v_port.specs.Ends.{Change}
+use Rattle.m2v_port.specs.Port.{Moves, Grows, GrowsByPrefix}
+use Rattle.m2v_model.specs.Units.{Units, cut, joined}
+use Rattle.m2v_model.specs.Pieces.{piece_of, Limit, too_long, too_large}
+use Rattle.m2v_decode.specs.m2v_dec_piece.declared.answer.Piece.{Piece}
+use Rattle.m2v_decode.specs.m2v_dec_piece.declared.answer.DecodeError.{DecodeError}
+use Rattle.m2v_decode.specs.m2v_dec_piece.declared.answer.DecodeError.TheVariants as reading
+use Rattle.m2v_decode.specs.m2v_dec_piece.Cutting.{Cutting, start_of, left_of, follows_of}
+use Rattle.m2v_decode.specs.Decoding.{whole_of}
+use Rattle.m2v_law_seam.specs.Spans.{units_in, stretches, steps}
+use Rattle.m2v_law_seam.specs.Mending as mending
+use Rattle.m2v_law_seam.specs.Mending.{strands_of}
+use Rattle.m2v_law_seam.specs.Mends.{without_ends}
+use Rattle.m2v_law_seam.specs.Reading.{IsPieceOfUnits}
+use Rattle.m2v_law_seam.specs.Told as told
+use Rattle.m2v_law_seam.specs.Told.{all_kept, some_kept, answer_to}
+use Rattle.m2v_mend.specs.declared.answer.Answer.{Answer}
+use Rattle.m2v_mend.specs.declared.answer.MendError.{MendError}
+use Rattle.m2v_mend.specs.declared.answer.MendError.TheVariants as errors
+use Rattle.m2v_mend.specs.declared.gap.Gap.{Gap}
+use Rattle.m2v_mend.specs.declared.folding.Folding.{Folding}
+use Rattle.m2v_mend.specs.Answers.{first_limit, limit_among, limit_from, mend_limit, answer_told, mended_bytes}
+use Rattle.m2v_mend.specs.Feeding.{bare, bare_pieces, stretches_at}
+use Rattle.m2v_mend.specs.Gathering.{Tally, Gathering, with_pieces, before_stretch, stretch_ended, finished, nothing_told, behind_stretches}
+use Rattle.m2v_mend.specs.Making.{IsFolded, IsNextPiece}
+use Rattle.m2v_mend.specs.Members.{IsOneOfUnits}
+
+-- ---- what is written
+
+-- why bytes weren't written whole: output failed or memory ran out, and a prefix of them stands
+abbrev pub Cuts : List ℕ → Change → MendError → Type 0
+Cuts bytes held errors.Read = ⊥
+Cuts bytes held errors.Write = held.Failed × GrowsByPrefix held.old bytes held.new
+Cuts bytes held errors.TooLong = ⊥
+Cuts bytes held errors.PictureTooLarge = ⊥
+Cuts bytes held errors.Memory = GrowsByPrefix held.old bytes held.new
+
+-- an error of an endpoint comes where that failed
+abbrev pub Fell : Type 0 → Type 0 → MendError → Type 0
+Fell Input Output errors.Read = Input
+Fell Input Output errors.Write = Output
+Fell Input Output errors.TooLong = Unit {0}
+Fell Input Output errors.PictureTooLarge = Unit {0}
+Fell Input Output errors.Memory = Unit {0}
+
+-- the same where only output can fail
+abbrev pub FellOut : Type 0 → MendError → Type 0
+FellOut Output errors.Read = ⊥
+FellOut Output errors.Write = Output
+FellOut Output errors.TooLong = ⊥
+FellOut Output errors.PictureTooLarge = ⊥
+FellOut Output errors.Memory = Unit {0}
+
+-- the errors of a feed, as they are answered
+abbrev pub IsAnswered : DecodeError → MendError → Type 0
+IsAnswered reading.Read e = e ≡ errors.Read
+IsAnswered reading.Write e = ⊥
+IsAnswered (reading.Stream f) e = ⊥
+IsAnswered reading.TooLong e = e ≡ errors.TooLong
+IsAnswered reading.PictureTooLarge e = e ≡ errors.PictureTooLarge
+IsAnswered reading.Memory e = e ≡ errors.Memory
+
+-- pieces were handed out, and all gaps but the last one let go
+pub record IsForgotten (old new : Folding) : Type 0 where
+  pub front : List Gap
+  pub gaps : old.mender.gaps.items ≡ front ++ new.mender.gaps.items
+  pub last : new.mender.gaps.items ≡ [] → old.mender.gaps.items ≡ []
+  pub none : new.mender.out.items ≡ []
+  pub same : new ≡ record old { mender = record old.mender { out = new.mender.out; gaps = new.mender.gaps } }
+
+-- bytes were written and gaps let go, and what was made of pieces is told by them
+pub record IsFlushed (held held' : Option (List ℕ)) (old new : Folding) : Type 0 where
+  pub bytes : List ℕ
+  pub gaps : List mending.Gap
+  pub grown : Grows held bytes held'
+  pub folded : (written : List ℕ) (listed : List mending.Gap) (g : Gathering) → IsFolded written listed g old → IsFolded (written ++ bytes) (listed ++ gaps) g new
+
+-- behind bytes that were written stands a prefix of what the strands have more
+abbrev pub IsPartOf : Gathering → List ℕ → Option (List ℕ) → Option (List ℕ) → Type 0
+IsPartOf g written held held' = (more : List ℕ) × (joined (strands_of g.tally.made) ≡ written ++ more) × GrowsByPrefix held more held'
+
+-- with a piece that may have no byte
+abbrev pub with_whole : Gathering → Piece → Gathering
+with_whole g p = with_pieces g (piece_of (whole_of p))
+
+-- a piece that has a byte is the next one
+abbrev pub IsNextIf : Gathering → Piece → Type 0
+IsNextIf g p = (p.length ≡ length (whole_of p)) × (1 ≤ p.length → IsNextPiece g p)
+
+-- it was taken, and bytes were written
+pub record IsTaken (held held' : Option (List ℕ)) (p : Piece) (old new : Folding) : Type 0 where
+  pub bytes : List ℕ
+  pub grown : Grows held bytes held'
+  pub folded : (written : List ℕ) (listed : List mending.Gap) (g : Gathering) → IsFolded written listed g old → IsNextIf g p → (more : List mending.Gap) × IsFolded (written ++ bytes) more (with_whole g p) new
+
+-- behind a stretch, whose pieces end before a byte
+abbrev pub over_to : Gathering → ℕ → Gathering
+over_to g place = before_stretch (stretch_ended (finished g)) place (g.before ++ units_in g.pieces)
+
+-- a stretch has ended, and bytes were written
+pub record IsEnded (held held' : Option (List ℕ)) (old new : Folding) : Type 0 where
+  pub bytes : List ℕ
+  pub grown : Grows held bytes held'
+  pub folded : (written : List ℕ) (listed : List mending.Gap) (g : Gathering) → IsFolded written listed g old
+      → (more : List mending.Gap) × ((place : ℕ) → g.place + length (joined g.pieces) ≤ place → IsFolded (written ++ bytes) more (over_to g place) new)
+
+-- ---- what is left of an input
+
+-- the units of an input so far, with those of the pieces that are left of the stretch
+abbrev pub units_with : Gathering → List (List ℕ) → Units
+units_with g raws = (g.before ++ units_in g.pieces) ++ units_in (bare_pieces raws)
+
+-- Pieces as they are cut, the first from a byte on, behind others whose units end at a byte: without what stands before its first
+-- unit and without its end code each begins where the one before it ends.
+abbrev pub Lie : ℕ → ℕ → List (List ℕ) → Type 0
+Lie start at [] = at ≤ start
+Lie start at (w ∷ ws) = (start + length (cut 0 w).0 ≡ at) × Lie (start + length w) (at + length (bare w)) ws
+
+-- pieces behind so many of a stretch
+abbrev pub AreNext : ℕ → List (List ℕ) → Type 0
+AreNext n [] = Unit {0}
+AreNext n (p ∷ ps) = IsOneOfUnits p × (1 ≤ n → IsPieceOfUnits p) × AreNext 1 ps
+
+-- within a stretch: what is made of a text is what is made of the pieces at hand, those that are left, and the text that follows
+pub record OnWay (text : List ℕ) (g : Gathering) (start : ℕ) (raws : List (List ℕ)) (follows : List ℕ) : Type 0 where
+  pub end : ℕ
+  pub sum : end + length follows ≡ length text
+  pub made : behind_stretches nothing_told (stretches text) ≡ behind_stretches (stretch_ended (finished (with_pieces g (bare_pieces raws)))) (stretches_at end (units_with g raws) follows)
+  pub units : without_ends (cut 0 text).1 ≡ units_with g raws ++ without_ends (cut 0 follows).1
+  pub lie : Lie start (g.place + length (joined g.pieces)) raws
+  pub next : AreNext (length g.pieces) (bare_pieces raws)
+  pub fuel : ℕ
+  pub enough : length follows ≤ fuel
+  pub limits : mend_limit text ≡ first_limit (limit_among start raws) (limit_from fuel end follows)
+
+-- within a stretch of a text, of which this is left
+pub record InStretch (c : Cutting) (x : Folding) (text written rest : List ℕ) : Type 0 where
+  pub gathering : Gathering
+  pub listed : List mending.Gap
+  pub folded : IsFolded written listed gathering x
+  pub way : OnWay text gathering c.place (left_of c rest) (follows_of c rest)
+  pub start : start_of c rest ≡ c.place
+  pub total : c.place + length (c.unread ++ rest) ≡ length text
+
+-- before a stretch
+pub record IsBefore (c : Cutting) (x : Folding) (text written rest : List ℕ) : Type 0 where
+  pub tally : Tally
+  pub before : Units
+  pub listed : List mending.Gap
+  pub folded : (place : ℕ) → c.place ≤ place → IsFolded written listed (before_stretch tally place before) x
+  pub made : behind_stretches nothing_told (stretches text) ≡ behind_stretches tally (stretches_at c.place before (c.unread ++ rest))
+  pub units : without_ends (cut 0 text).1 ≡ before ++ without_ends (cut 0 (c.unread ++ rest)).1
+  pub over : stretch_ended tally ≡ tally
+  pub total : c.place + length (c.unread ++ rest) ≡ length text
+  pub fuel : ℕ
+  pub enough : length (c.unread ++ rest) ≤ fuel
+  pub limits : mend_limit text ≡ limit_from fuel c.place (c.unread ++ rest)
+
+-- all pieces of a stretch were read; where it has none, nothing is left
+pub record IsRead (some : Bool) (c : Cutting) (x : Folding) (text written rest : List ℕ) : Type 0 where
+  pub in_stretch : InStretch c x text written rest
+  pub ended : c.ended ≡ true
+  pub none : some ≡ false → c.unread ++ rest ≡ []
+
+-- a stretch was read
+pub record IsBehind (some : Bool) (c : Cutting) (x : Folding) (text written rest : List ℕ) : Type 0 where
+  pub before : IsBefore c x text written rest
+  pub none : some ≡ false → c.unread ++ rest ≡ []
+
+-- bytes were read and written, and where the source tells its bytes, this holds of the text, of what was written, and of what is left
+pub record Comes (Holds : List ℕ → List ℕ → List ℕ → Type 0) (first left start held : Option (List ℕ)) : Type 0 where
+  pub bytes : List ℕ
+  pub moved : Moves first bytes left
+  pub written : List ℕ
+  pub grown : Grows start written held
+  pub told : (rest : List ℕ) → left ≡ Some rest → Holds (bytes ++ rest) written rest
+
+-- a prefix of the mended text was written
+pub record IsCut (first left start held : Option (List ℕ)) : Type 0 where
+  pub bytes : List ℕ
+  pub moved : Moves first bytes left
+  pub told : (rest : List ℕ) → left ≡ Some rest → GrowsByPrefix start (mended_bytes (bytes ++ rest)) held
+
+-- the input was read to its end: it passes no limit, this is the answer, and the mended text was written
+pub record IsAll (a : Answer) (first left start held : Option (List ℕ)) : Type 0 where
+  pub bytes : List ℕ
+  pub moved : Moves first bytes left
+  pub told : (rest : List ℕ) → left ≡ Some rest
+      → (answer_told a ≡ answer_to steps (bytes ++ rest)) × Grows start (mended_bytes (bytes ++ rest)) held × (mend_limit (bytes ++ rest) ≡ None)
+
+-- the answer by the numbers that were counted, where a strand has a byte
+abbrev pub kept_told : Folding → told.Answer
+kept_told x =
+    if nat_eq x.mender.left 0 then all_kept x.mender.groups x.pictures (x.mender.bytes + 4)
+    else some_kept x.mender.groups x.groups (x.pictures - x.mender.left) x.pictures (x.mender.bytes + 4)
+
+-- bytes were read, and the text that they begin passes this limit
+pub record PastLimit (l : Limit) (first left : Option (List ℕ)) : Type 0 where
+  pub bytes : List ℕ
+  pub moved : Moves first bytes left
+  pub told : (rest : List ℕ) → left ≡ Some rest → mend_limit (bytes ++ rest) ≡ Some l
+
+-- where a limit is answered the text passes it
+abbrev pub IsPast : MendError → Option (List ℕ) → Option (List ℕ) → Type 0
+IsPast errors.Read first left = Unit {0}
+IsPast errors.Write first left = Unit {0}
+IsPast errors.TooLong first left = PastLimit too_long first left
+IsPast errors.PictureTooLarge first left = PastLimit too_large first left
+IsPast errors.Memory first left = Unit {0}

@@ -1,0 +1,192 @@
+//! One stretch of an input: its pieces are read, and what is kept of them is written.
+ghost use Rattle.std.specs.Prelude.{◌≡◌, ◌≤◌, ◌<◌, ◌^◌, ℕ, List, [], Option, true, false, IsTrue, IfOk, IfErr, OnOk, OnErr};
+ghost use Rattle.m2v_port.specs.Ends.{SinkStays};
+ghost use Rattle.m2v_port.specs.Port.{Rose};
+ghost use Rattle.m2v_decode.specs.m2v_dec_piece.Cutting.{IsReading};
+ghost use Rattle.m2v_law_seam.specs.Mending as mending;
+ghost use Rattle.m2v_mend.specs.Feeding.{IsOwn};
+ghost use Rattle.m2v_mend.specs.Gathering.{Gathering};
+ghost use Rattle.m2v_mend.specs.Making.{IsFolded, IsFoldReady};
+ghost use Rattle.m2v_mend.specs.Stretching.{Fell, FellOut, IsAnswered, IsForgotten, IsFlushed, IsPartOf, with_whole, IsNextIf, IsTaken, over_to, IsEnded, InStretch, IsBefore, IsRead, IsBehind, Comes, IsCut, IsPast};
+
+use crate::Memory;
+use crate::answer::MendError;
+use crate::feed::Feed;
+use crate::folding::Folding;
+use crate::writing::put_pieces;
+use m2v_decode::{DecodeError, Piece};
+use m2v_port::{Sink, Source};
+use std::alloc::Global;
+
+/// An error of a feed: it never writes, and reads no element.
+fn answered(e: DecodeError) -> MendError
+    requires { IsReading e }
+    ensures { IsAnswered e result }
+{
+    match e {
+        DecodeError::Read => MendError::Read,
+        DecodeError::TooLong => MendError::TooLong,
+        DecodeError::PictureTooLarge => MendError::PictureTooLarge,
+        DecodeError::Memory => MendError::Memory,
+        DecodeError::Write => unreachable!(),
+        DecodeError::Stream(_) => unreachable!(),
+    }
+}
+
+/// Lets go the pieces that were handed out, and all gaps but the last one, which another one may join.
+fn forget(folding: &mut Folding) -> Result<(), Memory>
+    ensures { OnOk result (IsForgotten folding.old folding.new) }
+{
+    folding.mender.out.truncate(0);
+    if let Some(last) = folding.mender.gaps.pop() {
+        folding.mender.gaps.truncate(0);
+        folding.mender.gaps.push(last)?;
+    }
+    Ok(())
+}
+
+/// Writes the pieces that were kept, and lets them go.
+fn flush<K: Sink>(folding: &mut Folding, output: &mut K) -> Result<(), MendError>
+    requires output { IsTrue (K.ready output.old) }
+    ensures told { OnOk result
+        (IsFlushed (K.held output.old) (K.held output.new) folding.old folding.new) }
+    ensures ready { OnOk result (IsFoldReady folding.old → IsFoldReady folding.new) }
+    ensures none { OnOk result (folding.new.mender.out.items ≡ []) }
+    ensures err { OnErr result ((written : List ℕ) (listed : List mending.Gap) (g : Gathering)
+        → IsFolded written listed g folding.old
+        → IsPartOf g written (K.held output.old) (K.held output.new)) }
+    ensures fell { IfErr result (FellOut (Rose (K.faults output.old) (K.faults output.new))) }
+    ensures output { SinkStays K.ready K.name K.faults output.old output.new }
+{
+    put_pieces(&folding.mender.out, output)?;
+    forget(folding)?;
+    Ok(())
+}
+
+/// Takes one piece more, and writes what is kept by it. A piece without a byte is passed over.
+fn take<K: Sink>(
+    alloc: Global,
+    piece: Piece,
+    folding: &mut Folding,
+    output: &mut K,
+) -> Result<(), MendError>
+    requires ready { IsFoldReady folding.old }
+    requires own { IsOwn piece }
+    requires output { IsTrue (K.ready output.old) }
+    ensures told { OnOk result (IsTaken (K.held output.old) (K.held output.new) piece
+        folding.old folding.new) }
+    ensures ready { OnOk result (IsFoldReady folding.new) }
+    ensures err { OnErr result ((written : List ℕ) (listed : List mending.Gap) (g : Gathering)
+        → IsFolded written listed g folding.old → IsNextIf g piece
+        → IsPartOf (with_whole g piece) written (K.held output.old) (K.held output.new)) }
+    ensures fell { IfErr result (FellOut (Rose (K.faults output.old) (K.faults output.new))) }
+    ensures output { SinkStays K.ready K.name K.faults output.old output.new }
+{
+    if piece.length == 0 {
+        return Ok(());
+    }
+    folding.piece(alloc, piece)?;
+    flush(folding, output)
+}
+
+/// Ends a stretch, and writes what is kept by that.
+fn end<K: Sink>(alloc: Global, folding: &mut Folding, output: &mut K) -> Result<(), MendError>
+    requires ready { IsFoldReady folding.old }
+    requires output { IsTrue (K.ready output.old) }
+    ensures told { OnOk result
+        (IsEnded (K.held output.old) (K.held output.new) folding.old folding.new) }
+    ensures ready { OnOk result (IsFoldReady folding.new) }
+    ensures none { OnOk result (folding.new.mender.out.items ≡ []) }
+    ensures err { OnErr result ((written : List ℕ) (listed : List mending.Gap) (g : Gathering)
+        (place : ℕ) → IsFolded written listed g folding.old
+        → IsPartOf (over_to g place) written (K.held output.old) (K.held output.new)) }
+    ensures fell { IfErr result (FellOut (Rose (K.faults output.old) (K.faults output.new))) }
+    ensures output { SinkStays K.ready K.name K.faults output.old output.new }
+{
+    folding.end_stretch(alloc)?;
+    flush(folding, output)
+}
+
+/// Reads the pieces of a stretch, and writes what is kept of them. Answers whether it has one.
+fn pieces<S: Source, K: Sink>(
+    alloc: Global,
+    feed: &mut Feed,
+    folding: &mut Folding,
+    input: &mut S,
+    output: &mut K,
+) -> Result<bool, MendError>
+    requires going { feed.old.failed ≡ false }
+    requires begun { feed.old.begun ≡ true }
+    requires still { feed.old.ended ≡ false }
+    requires ready { IsFoldReady folding.old }
+    requires output { IsTrue (K.ready output.old) }
+    ensures told { IfOk result (λ some. (first start : Option (List ℕ))
+        → Comes (InStretch feed.old folding.old) first (S.left input.old) start (K.held output.old)
+        → Comes (IsRead some feed.new folding.new) first (S.left input.new) start
+        (K.held output.new)) }
+    ensures going { OnOk result (feed.new.failed ≡ false) }
+    ensures onward { IfOk result (λ some. some ≡ true → feed.old.place < feed.new.place) }
+    ensures most { OnOk result (feed.new.place ≤ 2 ^ 36) }
+    ensures ready { OnOk result (IsFoldReady folding.new) }
+    ensures err { OnErr result ((first start : Option (List ℕ))
+        → Comes (InStretch feed.old folding.old) first (S.left input.old) start (K.held output.old)
+        → IsCut first (S.left input.new) start (K.held output.new)) }
+    ensures fell { IfErr result (Fell (Rose (S.faults input.old) (S.faults input.new))
+        (Rose (K.faults output.old) (K.faults output.new))) }
+    ensures past { IfErr result (λ e. (first start : Option (List ℕ))
+        → Comes (InStretch feed.old folding.old) first (S.left input.old) start (K.held output.old)
+        → IsPast e first (S.left input.new)) }
+    ensures output { SinkStays K.ready K.name K.faults output.old output.new }
+    ensures input { S.faults input.old ≤ S.faults input.new }
+{
+    let mut some = false;
+    loop {
+        match feed.next_piece(alloc, input) {
+            Err(e) => return Err(answered(e)),
+            Ok(None) => return Ok(some),
+            Ok(Some(piece)) => {
+                take(alloc, piece, folding, output)?;
+                some = true;
+            }
+        }
+    }
+}
+
+/// Reads a stretch, and writes what is kept of it. Answers whether it has a piece; where it has none, nothing is left of the
+/// input.
+pub(crate) fn stretch<S: Source, K: Sink>(
+    alloc: Global,
+    feed: &mut Feed,
+    folding: &mut Folding,
+    input: &mut S,
+    output: &mut K,
+) -> Result<bool, MendError>
+    requires going { feed.old.failed ≡ false }
+    requires begun { feed.old.begun ≡ true }
+    requires still { feed.old.ended ≡ false }
+    requires ready { IsFoldReady folding.old }
+    requires output { IsTrue (K.ready output.old) }
+    ensures told { IfOk result (λ some. (first start : Option (List ℕ))
+        → Comes (IsBefore feed.old folding.old) first (S.left input.old) start (K.held output.old)
+        → Comes (IsBehind some feed.new folding.new) first (S.left input.new) start
+        (K.held output.new)) }
+    ensures going { OnOk result (feed.new.failed ≡ false) }
+    ensures onward { IfOk result (λ some. some ≡ true → feed.old.place < feed.new.place) }
+    ensures most { OnOk result (feed.new.place ≤ 2 ^ 36) }
+    ensures ready { OnOk result (IsFoldReady folding.new) }
+    ensures none { OnOk result (folding.new.mender.out.items ≡ []) }
+    ensures err { OnErr result ((first start : Option (List ℕ))
+        → Comes (IsBefore feed.old folding.old) first (S.left input.old) start (K.held output.old)
+        → IsCut first (S.left input.new) start (K.held output.new)) }
+    ensures fell { IfErr result (Fell (Rose (S.faults input.old) (S.faults input.new))
+        (Rose (K.faults output.old) (K.faults output.new))) }
+    ensures past { IfErr result (λ e. (first start : Option (List ℕ))
+        → Comes (IsBefore feed.old folding.old) first (S.left input.old) start (K.held output.old)
+        → IsPast e first (S.left input.new)) }
+    ensures output { SinkStays K.ready K.name K.faults output.old output.new }
+    ensures input { S.faults input.old ≤ S.faults input.new }
+{
+    let some = pieces(alloc, feed, folding, input, output)?;
+    end(alloc, folding, output)?;
+    Ok(some)
+}

@@ -1,0 +1,146 @@
+//! The mending of a whole input.
+ghost use Rattle.std.specs.Prelude.{◌≡◌, ◌*◌, ◌^◌, ◌≤◌, ℕ, List, Option, [], true, false, IsTrue, IfOk, IfErr, OnOk, OnErr};
+ghost use Rattle.m2v_port.specs.Ends.{change, SinkStays};
+ghost use Rattle.m2v_port.specs.Port.{Rose};
+ghost use Rattle.m2v_decode.specs.Answers.{OfText};
+ghost use Rattle.m2v_decode.specs.m2v_dec_piece.Cutting.{Cutting};
+ghost use Rattle.m2v_law_seam.specs.Told.{none_kept};
+ghost use Rattle.m2v_mend.specs.Answers.{answer_told, IsMended, Fails};
+ghost use Rattle.m2v_mend.specs.Making.{fault_first, IsFoldReady};
+ghost use Rattle.m2v_mend.specs.Stretching.{Fell, FellOut, IsBefore, IsBehind, Comes, IsCut, IsPast, IsAll, kept_told};
+
+use crate::Memory;
+use crate::answer::{Answer, MendError};
+use crate::feed::Feed;
+use crate::folding::Folding;
+use crate::stretch::stretch;
+use crate::sums::sum;
+use crate::writing::put;
+use m2v_decode::Fault;
+use m2v_model::FaultKind;
+use m2v_port::{Sink, Source};
+use std::alloc::Global;
+
+/// The answer where a strand has a byte.
+fn kept(folding: &Folding) -> Result<Answer, Memory>
+    ensures { IfOk result (λ a. answer_told a ≡ kept_told folding.now) }
+{
+    let bytes = sum(folding.mender.bytes, 4)?;
+    let left = folding.mender.left;
+    if left == 0 {
+        return Ok(Answer::AllKept {
+            groups: folding.mender.groups,
+            pictures: folding.pictures,
+            bytes,
+        });
+    }
+    Ok(Answer::SomeKept {
+        groups: folding.mender.groups,
+        of_groups: folding.groups,
+        pictures: folding.pictures.saturating_sub(left),
+        of_pictures: folding.pictures,
+        bytes,
+    })
+}
+
+/// The answer where there is no strand, to an input that ends at a byte.
+fn nothing(folding: &Folding, end: u64) -> Answer
+    requires { end ≤ 2 ^ 36 }
+    ensures { answer_told result
+        ≡ none_kept (fault_first (8 * end) folding.now.mender.fault) }
+{
+    match folding.mender.fault {
+        Some(fault) => Answer::NoneKept(fault),
+        None => Answer::NoneKept(Fault {
+            kind: FaultKind::NoSequence,
+            place: 8 * end,
+        }),
+    }
+}
+
+/// Writes the sequence end code, where there is a strand. Answers what was kept of an input that ends at a byte.
+fn finish<K: Sink>(folding: &Folding, end: u64, output: &mut K) -> Result<Answer, MendError>
+    requires most { end ≤ 2 ^ 36 }
+    requires none { folding.now.mender.out.items ≡ [] }
+    requires output { IsTrue (K.ready output.old) }
+    ensures told { IfOk result (λ a. (c : Cutting) (first left start : Option (List ℕ))
+        → c.place ≡ end → Comes (IsBehind false c folding.now) first left start
+        (K.held output.old) → IsAll a first left start (K.held output.new)) }
+    ensures err { OnErr result ((c : Cutting) (first left start : Option (List ℕ))
+        → c.place ≡ end → Comes (IsBehind false c folding.now) first left start
+        (K.held output.old) → IsCut first left start (K.held output.new)) }
+    ensures fell { IfErr result (FellOut (Rose (K.faults output.old) (K.faults output.new))) }
+    ensures output { SinkStays K.ready K.name K.faults output.old output.new }
+{
+    if folding.mender.bytes == 0 {
+        return Ok(nothing(folding, end));
+    }
+    let answer = kept(folding)?;
+    let code = [0u8, 0, 1, 0xB7];
+    put(&code, output)?;
+    Ok(answer)
+}
+
+/// Reads stretch after stretch, and writes what is kept of each.
+fn stretches<S: Source, K: Sink>(
+    alloc: Global,
+    feed: &mut Feed,
+    folding: &mut Folding,
+    input: &mut S,
+    output: &mut K,
+) -> Result<(), MendError>
+    requires going { feed.old.failed ≡ false }
+    requires begun { feed.old.begun ≡ true }
+    requires still { feed.old.ended ≡ false }
+    requires ready { IsFoldReady folding.old }
+    requires output { IsTrue (K.ready output.old) }
+    ensures told { OnOk result ((first start : Option (List ℕ))
+        → Comes (IsBefore feed.old folding.old) first (S.left input.old) start (K.held output.old)
+        → Comes (IsBehind false feed.new folding.new) first (S.left input.new) start
+        (K.held output.new)) }
+    ensures none { OnOk result (folding.new.mender.out.items ≡ []) }
+    ensures err { OnErr result ((first start : Option (List ℕ))
+        → Comes (IsBefore feed.old folding.old) first (S.left input.old) start (K.held output.old)
+        → IsCut first (S.left input.new) start (K.held output.new)) }
+    ensures fell { IfErr result (Fell (Rose (S.faults input.old) (S.faults input.new))
+        (Rose (K.faults output.old) (K.faults output.new))) }
+    ensures past { IfErr result (λ e. (first start : Option (List ℕ))
+        → Comes (IsBefore feed.old folding.old) first (S.left input.old) start (K.held output.old)
+        → IsPast e first (S.left input.new)) }
+    ensures output { SinkStays K.ready K.name K.faults output.old output.new }
+    ensures input { S.faults input.old ≤ S.faults input.new }
+{
+    loop {
+        if !stretch(alloc, feed, folding, input, output)? {
+            return Ok(());
+        }
+        feed.go_on();
+    }
+}
+
+/// Mends an input: reads it to its end, behind sequence end codes too, and writes the strands that it has, and one sequence
+/// end code. Answers what was kept, or why nothing was.
+///
+/// # Errors
+/// A failed input, a failed output, limits that the input passes, and want of memory, with a prefix of the mended text on
+/// output.
+pub fn mend<S: Source, K: Sink>(
+    alloc: Global,
+    input: &mut S,
+    output: &mut K,
+) -> Result<Answer, MendError>
+    requires output { IsTrue (K.ready output.old) }
+    ensures ok { IfOk result (λ a. OfText
+        (change S.left S.faults input.old input.new) (λ text. IsMended text
+        (change K.held K.faults output.old output.new) a)) }
+    ensures err { IfErr result (Fails
+        (change S.left S.faults input.old input.new)
+        (change K.held K.faults output.old output.new)) }
+    ensures output { SinkStays K.ready K.name K.faults output.old output.new }
+    ensures input { S.faults input.old ≤ S.faults input.new }
+{
+    let mut feed = Feed::new(alloc)?;
+    let mut folding = Folding::new(alloc);
+    stretches(alloc, &mut feed, &mut folding, input, output)?;
+    finish(&folding, feed.place(), output)
+}
