@@ -134,6 +134,18 @@ cp two.m2v in
 holds 'decode: two frames' 0 'frames 2 pictures 2 dropped 0' frames decode
 holds 'check: lawful' 0 'lawful frames 2 pictures 2 bytes 84 low 0 high 672 delays 0' none check
 holds 'cut: the one group' 0 'groups 1 bytes 84' two.m2v cut 0 1
+holds 'mend: a stream without a fault' 0 'groups 1 pictures 2 bytes 84' two.m2v mend
+# the link of the second group, whose header stands 22 bytes behind its beginning, is marked as broken: byte 29 is 20 then
+cat two.m2v two.m2v > in
+{ head -c 80 two.m2v; head -c 29 two.m2v; bytes 20; tail -c +31 two.m2v; } > joined.m2v
+holds 'mend: two streams' 0 'groups 2 pictures 4 bytes 164' joined.m2v mend
+# the second picture begins at byte 56
+head -c 70 two.m2v > in
+{ head -c 56 two.m2v; bytes $end; } > begun_two.m2v
+holds 'mend: a stream that breaks off' 18 'groups 1 of 1 pictures 1 of 2 bytes 60' begun_two.m2v mend
+tail -c +57 two.m2v > in
+holds 'mend: a stream without its beginning' 19 'nothing kept stream NoSequence at bit 0' none mend
+cp two.m2v in
 # its pieces have 56, 24 and 4 bytes; 672 bits are the whole stream, and are there when the first picture is removed
 reports 'audit: nothing found' 0 'clean sequences 1 pictures 2 bytes 84 warnings 0' 'audit/1/main
 sequence/0/0/16/16/3/2/72/1/0/100/1/constant
@@ -234,6 +246,7 @@ holds 'cut: no groups' 3 'unfit rule 9 have 0 need 1' none cut 0 0
 holds 'flat: no frames' 5 'no frames' none flat 16 16 3 1
 holds 'encode: no frames' 5 'no frames' none encode "${small[@]}"
 holds 'decode: nothing' 9 'stream NoSequence at bit 0' none decode
+holds 'mend: nothing' 19 'nothing kept stream NoSequence at bit 0' none mend
 grey 767 > in
 holds 'flat: a short frame' 4 'short frame extra 383' begun.m2v flat 16 16 3 1
 holds 'encode: a short frame' 4 'short frame extra 383' none encode "${small[@]}"
@@ -259,13 +272,14 @@ holds 'check: a delay of 0' 11 'buffer under picture 0 have 489600 need 864000' 
 { bytes $sequence $extension 00 00 01 B2; grey 2097152; bytes $picture $slice $end; } > in
 holds 'decode: a piece too large' 14 'picture too large' none decode
 holds 'check: a piece too large' 14 'picture too large' none check
+holds 'mend: a piece too large' 14 'picture too large' none mend
 cp two.m2v in
 holds 'cut: no second group' 16 'no group have 1 need 2' none cut 1 1
 bytes $coded $first 00 00 01 B8 00 08 00 40 $first $end > in
 holds 'cut: no sequence header before the group' 17 'not cuttable at bit 448' none cut 1 1
 
 # ---- endpoints that fail
-for words in 'flat 16 16 3 1' "encode ${small[*]}" 'encode-y4m --bits 100 --buffer 1' decode check 'cut 0 1' 'pack 16 16 3' unpack; do
+for words in 'flat 16 16 3 1' "encode ${small[*]}" 'encode-y4m --bits 100 --buffer 1' decode check mend 'cut 0 1' 'pack 16 16 3' unpack; do
   ends "${words%% *}: an input that can't be read" 7 'read fault' $words < / > out
   if [ "${words%% *}" = pack ]; then head -n 1 frame.y4m > wanted; else : > wanted; fi
   tell "${words%% *}: no frame was written then" "$(cmp wanted out 2>&1)"
@@ -274,6 +288,7 @@ ends 'flat: a full disc' 8 'write fault' flat 16 16 3 1 < frame > /dev/full
 ends 'encode: a full disc' 8 'write fault' encode "${small[@]}" < frame > /dev/full
 ends 'encode-y4m: a full disc' 8 'write fault' encode-y4m --bits 100 --buffer 1 < frame.y4m > /dev/full
 ends 'decode: a full disc' 8 'write fault' decode < flat.m2v > /dev/full
+ends 'mend: a full disc' 8 'write fault' mend < two.m2v > /dev/full
 ends 'cut: a full disc' 8 'write fault' cut 0 1 < two.m2v > /dev/full
 ends 'pack: a full disc' 8 'write fault' pack 16 16 3 < frame > /dev/full
 ends 'unpack: a full disc' 8 'write fault' unpack < frame.y4m > /dev/full
