@@ -6,8 +6,9 @@
 An example is a command whose next lines begin with `# `: these are what it prints. They are run in their order, with the
 clip that they work on, in a folder that is removed afterwards. Each that prints something else is told, and the status is
 1; with --fill README.md is given what was printed. What stands there without such lines, the pipes of other programs, is run
-too where these are installed, and must end with status 0."""
+too where these are installed, and must end with status 0; where they aren't, what reads their files is left out too."""
 
+import re
 import shutil
 import subprocess
 import sys
@@ -47,6 +48,11 @@ def is_there(command):
     return all(shutil.which(name) for name in ('ffmpeg', 'mplex') if name + ' ' in command)
 
 
+def reads_nothing(command, folder):
+    """Whether a file that a command reads isn't there."""
+    return not all((Path(folder) / name).exists() for name in re.findall(r' < (\S+)', command))
+
+
 def main():
     readme = TOP / 'README.md'
     lines = readme.read_text().splitlines()
@@ -57,7 +63,7 @@ def main():
             (Path(folder) / name).symlink_to(TOP / name)
         for at, after, end in examples(lines):
             command = '\n'.join(line[len(INDENT):] for line in lines[at:after])
-            if not is_there(command):
+            if not is_there(command) or (left_out and reads_nothing(command, folder)):
                 left_out += 1
                 continue
             run = subprocess.run(['bash', '-c', 'set -o pipefail\n' + command], cwd=folder, stdin=subprocess.DEVNULL,
@@ -66,7 +72,7 @@ def main():
             if end > after:
                 filled += lines[done:after] + printed
                 done = end
-            if run.returncode or (end > after and printed != lines[after:end]):
+            if (printed != lines[after:end]) if end > after else run.returncode:
                 wrong += 1
                 print(command, *printed, 'status %d' % run.returncode, sep='\n')
     if '--fill' in sys.argv[2:]:

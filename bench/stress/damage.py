@@ -1,17 +1,18 @@
 #!/usr/bin/env python3
-"""Gives `decode`, `check` and `audit` 10,000 damaged streams: each is to be answered at once and in little memory.
+"""Gives `decode`, `check`, `audit` and `mend` 10,000 damaged streams: each is to be answered at once and in little memory.
 
     bench/stress/damage.py PROGRAM [COUNT] [SEED]
 
 PROGRAM is the built program. Streams of I, P and B pictures, of frames and fields, with every kind of prediction, are
-those that bench/cases/pictures.py makes, and some that PROGRAM itself encodes. COUNT of them (10,000 where no number is
-given), some of them two streams one behind the other, are damaged: bits turned, bytes replaced, taken out, doubled or
-exchanged, start codes put in, units exchanged, the end cut off. Of each, `decode`, `check` and `audit` must end within 10
-seconds and 256 MB with one of their statuses and its line, and `decode` with whole frames; by four workers, which may
-take 1 GB of addresses, it must give the same. A fault must be the one that bench/cases/faults.py finds, and the report of
-`audit`, with each picture told and without, the one that bench/cases/audited.py makes, whose records of the first sequence
-must go with what `check` says. Then streams of a megabyte that are dear to read are timed beside an ordinary one, and
-their reports looked at: many tiny slices, many headers, many sequences, the longest escapes.
+those that bench/cases/pictures.py makes, and some that PROGRAM itself encodes. COUNT of them (10,000 where no number
+is given), some of them two streams one behind the other, are damaged: bits turned, bytes replaced, taken out, doubled
+or exchanged, start codes put in, units exchanged, the end cut off. Of each, the commands must end within 10 seconds
+and 256 MB with one of their statuses and its line, and `decode` with whole frames; by four workers, which may take 1
+GB of addresses, it must give the same. A fault must be the one that bench/cases/faults.py finds, and the report of
+`audit`, with each picture told and without, the one that bench/cases/audited.py makes, whose records of the first
+sequence must go with what `check` says. What `mend` answers and writes must be what bench/cases/mended.py makes of the
+stream, and `decode` must find no fault in it. Then streams of a megabyte that are dear to read are timed beside an
+ordinary one, and their reports looked at: many tiny slices, many headers, many sequences, the longest escapes.
 
 It ends with status 1 where a stream was not so answered; that stream is left in /tmp/damaged."""
 
@@ -32,6 +33,7 @@ sys.path.insert(0, str(CASES))
 
 from audited import report
 from faults import first_fault
+from mended import mend
 from pictures_writer import ESCAPED_INCREMENT, FRAME, I, INCREMENT, Picture, headers, sequence
 
 KIND = (r'(NoSequence|NotMpeg2|Unsupported|Truncated|NoCode|BadMarker|Forbidden|SequenceChanged|SliceOrder|'
@@ -43,9 +45,11 @@ LINES = {
                  r'variable frames \d+ pictures \d+ bytes \d+)',
               9: r'stream %s at bit \d+' % KIND, 10: r'unlawful rule \d+ picture \d+ have \d+ need \d+',
               11: r'buffer (under|over) picture \d+ have \d+ need \d+', 13: 'too long', 14: 'picture too large'},
-    'audit': {0: r'clean sequences \d+ pictures \d+ bytes \d+ warnings 0', 9: r'stream %s at bit \d+' % KIND,
+    'audit': {0: r'clean sequences \d+ pictures \d+ bytes \d+ warnings \d+', 9: r'stream %s at bit \d+' % KIND,
               13: 'too long', 14: 'picture too large',
-              18: r'found sequences \d+ pictures \d+ bytes \d+ breaches \d+ failures \d+ warnings 0'},
+              18: r'found sequences \d+ pictures \d+ bytes \d+ breaches \d+ failures \d+ warnings \d+'},
+    'mend': {0: r'groups \d+ pictures \d+ bytes \d+', 13: 'too long', 14: 'picture too large',
+             18: r'groups \d+ of \d+ pictures \d+ of \d+ bytes \d+', 19: r'nothing kept stream %s at bit \d+' % KIND},
 }
 SECONDS, MEMORY, MEMORY_BY_FOUR = 10, 256 << 20, 1 << 30
 BY_FOUR, EACH = 'decode --workers 4', 'audit --pictures'
@@ -93,7 +97,19 @@ def trouble(program, data):
         return '%s, or %s, did not end within %d seconds' % (BY_FOUR, EACH, SECONDS), answers
     if by_four != said['decode']:
         return '%s answered %d: %s, and %d bytes' % (BY_FOUR, *by_four[:2], len(by_four[2])), answers
-    return audit_trouble(data, said['check'], said['audit'], told), answers
+    return (audit_trouble(data, said['check'], said['audit'], told) or mend_trouble(program, data, said['mend'])), answers
+
+
+def mend_trouble(program, data, answer):
+    """What is wrong with the mended stream, where something is."""
+    made, status, line, _ = mend(data)
+    if answer != (status, line, made or b''):
+        return 'mend answered %d: %s, and %d bytes, not %d: %s' % (*answer[:2], len(answer[2]), status, line)
+    if made:
+        decoded = run(program, 'decode', made)[:2]
+        if decoded[0]:
+            return 'decode answered %d: %s, of what mend made' % decoded
+    return None
 
 
 def audit_trouble(data, checked, short, told):
@@ -116,7 +132,9 @@ def agrees(checked, output):
     rate = next((r[12] for r in records if r[:2] == ['sequence', '0']), None)
     if checked[0] in (0, 10, 11) and not {'sequence', 'end'} <= set(kinds):
         return False
-    broken, failed = 'breach' in kinds, 'failure' in kinds
+    # the rules of `check` are the first 15
+    broken = any(r[:2] == ['breach', '0'] and int(r[4]) <= 15 for r in records)
+    failed = 'failure' in kinds
     return {0: not broken and (rate == 'variable' if checked[1].startswith('variable') else not failed),
             10: broken, 11: not broken and failed and rate == 'constant'}.get(checked[0], True)
 
@@ -126,10 +144,14 @@ def units(data):
     return [m.start() for m in re.finditer(b'\0\0\1', data)]
 
 
-def damaged(draw, data):
-    """The stream with one damage."""
+KINDS = ('a bit turned', 'bits turned', 'a byte replaced', 'bytes taken out', 'bytes doubled', 'a start code put in',
+         'broken off', 'bytes of noise', 'units exchanged', 'a bit of a header turned')
+
+
+def damaged(draw, data, kind=None):
+    """The stream with one damage, of this kind where one is given."""
     data, starts = bytearray(data), units(data)
-    kind, at = draw.randrange(10), draw.randrange(len(data))
+    kind, at = draw.randrange(len(KINDS)) if kind is None else kind, draw.randrange(len(data))
     if kind == 0:
         data[at] ^= 1 << draw.randrange(8)
     elif kind == 1:

@@ -102,6 +102,7 @@ def main():
                 ('check', ['check'], plain),
                 ('audit', ['audit'], plain + plain),
                 ('audit with each picture', ['audit', '--pictures'], plain + plain),
+                ('mend', ['mend'], plain + plain),
                 ('make', ['make', '1'], b''),
         ):
             tried(program, name, words, data, shim, folder)
