@@ -375,3 +375,26 @@ walked_least us z bytes at n b old new eb w some f =
 
 pub kept_value : (kept : List ℕ) (z v : ℕ) → 4 ≤ length kept → get_or kept 3 0 ≡ v → value_of (text_of kept z) ≡ v
 kept_value kept z v le e = within_get kept z 3 (omega (arith, le)) ∙ e
+
+-- ---- units that change nothing
+
+either_off : (a b : Bool) → (a || b) ≡ false → (a ≡ false) × (b ≡ false)
+either_off true b e = absurd (both_ways true e refl)
+either_off false b e = (refl, e)
+
+has_first : (u : List ℕ) (us : Units) → has_sequence (u ∷ us) ≡ false → (is_sequence u ≡ false) × (has_sequence us ≡ false)
+unfolding has_sequence
+has_first u us e = either_off (is_sequence u) (has_sequence us) e
+
+matrices_first : (u : List ℕ) (us : Units) → has_matrices (u ∷ us) ≡ false → (is_matrices u ≡ false) × (has_matrices us ≡ false)
+unfolding has_matrices
+matrices_first u us e = either_off (is_matrices u) (has_matrices us) e
+
+-- behind a header that is whole: units without a sequence header and without a quant matrix extension
+pub heads_same : (us : Units) (h : Heads) → h.follows ≡ false → has_sequence us ≡ false → has_matrices us ≡ false → (before : Units) → IsHeads before h → IsHeads (before ++ us) h
+heads_same [] h f s m before k = subst (λ (l : Units). IsHeads l h) (sym (append-nil before)) k
+heads_same (u ∷ us) h f s m before k =
+    let a = has_first u us s in
+    let b = matrices_first u us m in
+    let lost : h.lost ≡ (h.lost || is_matrices u) = sym (ap (λ (x : Bool). h.lost || x) b.0 ∙ or_none h.lost) in
+    subst (λ (l : Units). IsHeads l h) (append_assoc before (u ∷ []) us) (heads_same us h f a.1 b.1 (before ++ u ∷ []) (heads_passed h h u a.0 (inl f) refl f lost refl before k))

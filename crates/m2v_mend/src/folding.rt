@@ -79,7 +79,7 @@ impl Folding {
         ensures members { OnOk result (MembersStand self.new.parts) }
     {
         let parts = SpanParts::begin(alloc, &self.heads, member)?;
-        self.heads.take(&parts.members[0].piece)?;
+        self.heads.take(&parts.members[0])?;
         self.parts = Some(parts);
         Ok(())
     }
@@ -92,7 +92,7 @@ impl Folding {
         ensures members { OnOk result (MembersStand self.new.parts) }
     {
         let mut parts = parts;
-        self.heads.take(&member.piece)?;
+        self.heads.take(&member)?;
         parts.push(member)?;
         self.parts = Some(parts);
         Ok(())

@@ -1,19 +1,19 @@
 //! The head of what follows: the last sequence header that was met, with the extension units right behind it.
 ghost use Rattle.std.specs.Prelude.{◌≡◌, ℕ, ◌+◌, ◌^◌, ◌<◌, ◌≤◌, ◌⊎◌, ◌++◌, ◌∷◌, [], true, false, length, is_some, OnOk, Some};
 ghost use Rattle.m2v_model.specs.Units.{Units};
-ghost use Rattle.m2v_decode.specs.m2v_dec_piece.Sound.{IsSoundPiece};
 ghost use Rattle.m2v_decode.specs.Decoding.{whole_of};
 ghost use Rattle.m2v_dec_unit.specs.Texts.{text_of, IsZeroEnded};
 ghost use Rattle.m2v_law_group.specs.Groups.{from_last_sequence, is_sequence};
 ghost use Rattle.m2v_law_seam.specs.Spans.{units_of, head_of, is_extension, is_matrices};
-ghost use Rattle.m2v_mend.specs.Editing.{IsUnits, IsWhole};
+ghost use Rattle.m2v_mend.specs.Editing.{IsWhole};
 ghost use Rattle.m2v_mend.specs.Heading.{IsHeads, IsBehind, IsAppended, IsLeftOut};
+ghost use Rattle.m2v_mend.specs.Members.{IsMember};
 
 use crate::Memory;
 use crate::edits::unit_length;
+use crate::member::Member;
 use crate::walk::{EXTENSION, SEQUENCE, matrices_seen, zeros_of};
 use m2v_dec_unit::Unit;
-use m2v_decode::Piece;
 use std::alloc::Global;
 
 /// The most bytes that a head has.
@@ -144,14 +144,17 @@ impl Heads {
         Ok(())
     }
 
-    /// The units of a piece.
-    pub fn take(&mut self, piece: &Piece) -> Result<(), Memory>
-        requires sound { IsSoundPiece piece.now }
-        requires units { IsUnits piece.now }
+    /// The units of a piece. Behind the header they change nothing but by a sequence header or a quant matrix extension, and
+    /// are looked at where one is among them alone.
+    pub fn take(&mut self, member: &Member) -> Result<(), Memory>
+        requires { IsMember member.now }
         ensures { OnOk result ((before : Units) → IsHeads before self.old
-            → IsHeads (before ++ units_of (whole_of piece.now)) self.new) }
+            → IsHeads (before ++ units_of (whole_of member.now.piece)) self.new) }
     {
-        self.take_all(&piece.bytes, zeros_of(piece))
+        if self.follows || member.info.sequence || member.info.matrices {
+            return self.take_all(&member.piece.bytes, zeros_of(&member.piece));
+        }
+        Ok(())
     }
 
     /// Whether there is a head.

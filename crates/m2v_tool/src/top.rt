@@ -104,16 +104,17 @@ fn reported<E: Sink>(alloc: Global, outcome: &Outcome, report: &mut E) -> Status
 /// Does all that the program does.
 ///
 /// `words` are those behind the program's name. `flat W H CODE Q` codes the raw frames of `input`, 1 to 999,999 of them,
-/// each W by H samples, to `output` by the flat profile, with the frame rate code CODE and the quantiser code Q.
-/// `decode` decodes the stream of `input` (ISO/IEC 13818-2) and writes the frames that it shows to `output` as raw
-/// video, in display order, with workers that `rt` runs and `gate` lets in. `check` says of the stream of `input` whether
-/// it keeps the rules of its level, and whether the decoder's buffer bears it; `audit` writes to `output` all that is wrong
-/// with the sequences of `input`. `mend` copies what decodes of `input` to `output`, a stream without a fault. `make SEED` writes a large lawful stream of a seed. `encode` codes the raw frames of `input`
-/// to `output` by its options, with workers that `rt` runs and `gate` lets in; where its words name a file, `recon` is
-/// opened under this name, and gets the frames that the stream decodes to. `cut FROM COUNT` copies whole groups of the
-/// stream of `input` to `output`, so many from number FROM on. `pack W H CODE` writes the raw frames of `input` as a
-/// YUV4MPEG2 text, and `unpack` the frames of such a text as raw video. `encode-y4m` codes the frames of such a text as
-/// `encode` does, with the sizes and the rate of its header.
+/// each W by H samples, to `output` by the flat profile, with the frame rate code CODE and the quantiser code Q. `decode`
+/// decodes the stream of `input` (ISO/IEC 13818-2) and writes the frames that it shows to `output` as raw video, in
+/// display order, with workers that `rt` runs and `gate` lets in. `check` says of the stream of `input` whether it keeps
+/// the rules of its level, and whether the decoder's buffer bears it; `audit` writes to `output` all that is wrong with
+/// the sequences of `input`. `mend` copies what decodes of `input` to `output`, a stream without a fault. `make SEED`
+/// writes a large lawful stream of a seed. `encode` codes the raw frames of `input` to `output` by its options, with
+/// workers that `rt` runs and `gate` lets in; where its words name a file, `recon` is opened under this name, and gets the
+/// frames that the stream decodes to. `cut FROM COUNT` copies whole groups of the stream of `input` to `output`, so many
+/// from number FROM on. `pack W H CODE` writes the raw frames of `input` as a YUV4MPEG2 text, and `unpack` the frames of
+/// such a text as raw video. `encode-y4m` codes the frames of such a text as `encode` does, with the sizes and the rate of
+/// its header.
 pub fn run<R: Threads + Wait + Sync, S: Source, K: Sink, N: NamedSink, E: Sink, G: Gate + Sync>(
     rt: &R,
     alloc: Global,
