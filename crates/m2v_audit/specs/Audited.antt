@@ -20,7 +20,7 @@ use Rattle.m2v_audit.specs.declared.outcome.Ending.{Ending}
 use Rattle.m2v_audit.specs.declared.outcome.Ending.TheVariants as endings
 use Rattle.m2v_audit.specs.declared.outcome.Outcome.{Outcome}
 use Rattle.m2v_audit.specs.Lines.{audit_line, columns_lines, skipped_text, fault_line, limit_line, total_line}
-use Rattle.m2v_audit.specs.FaultWords.{fault_word}
+use Rattle.m2v_strict.specs.m2v_check.m2v_decode.FaultWords.{fault_word}
 use Rattle.m2v_audit.specs.Auditing.{Auditing, nothing, is_begun, cleared, after_piece, stopped, ended}
 use Rattle.m2v_audit.specs.declared.asked.Asked.{Asked}
 use Rattle.m2v_strict.specs.RuleSets.{name_of}

@@ -13,7 +13,6 @@ pub mod Findings
 pub mod HeaderRecords
 pub mod Auditing
 pub mod WorkedAuditing
-pub mod FaultWords
 pub mod Audited
 pub mod Leading
 pub mod Feeding

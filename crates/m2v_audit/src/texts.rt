@@ -11,7 +11,6 @@ ghost use Rattle.m2v_audit.specs.Leading.{as_ending, is_fault, texts_from, total
 
 use crate::asked::Asked;
 use crate::auditor::Auditor;
-use crate::fault_words::fault_word;
 use crate::feed::Feed;
 use crate::lines::Lines;
 use crate::outcome::{Ending, Outcome};
@@ -19,7 +18,7 @@ use crate::pieces::{put, read_text};
 use crate::records::TotalRecord;
 use crate::words::LimitKind;
 use m2v_port::{Sink, Source};
-use m2v_strict::check::decode::DecodeError;
+use m2v_strict::check::decode::{DecodeError, fault_word};
 use std::alloc::{AllocError, Global};
 
 /// How a sequence stops by an error of its text; Read, Write and Memory are errors of the audit.

@@ -8,6 +8,7 @@ pub mod Progress
 pub mod Complete
 pub mod Reading
 pub mod Passing
+pub mod FaultWords
 pub use Rattle.m2v_dec_rows.specs.m2v_dec_picture
 pub use Rattle.m2v_dec_rows.specs as m2v_dec_rows
 pub use Rattle.m2v_dec_piece.specs as m2v_dec_piece

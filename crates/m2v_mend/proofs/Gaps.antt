@@ -7,6 +7,7 @@ use Rattle.m2v_law_seam.specs.Mending.{Gap, joins, both_gaps, with_gap}
 use Rattle.m2v_law_seam.specs.Told.{left_pictures, first_fault}
 use Rattle.m2v_mend.specs.declared.gap.Gap.{Gap as Kept}
 use Rattle.m2v_mend.specs.Making.{gap_told}
+use Rattle.m2v_mend.specs.Stretching.{AreSettled}
 
 -- it joins or follows the last of those that weren't handed out
 pub gap_behind : (front gs : List Gap) (h : Gap) → (gs ≡ [] → front ≡ []) → with_gap (front ++ gs) h ≡ front ++ with_gap gs h
@@ -25,6 +26,14 @@ unfolding with_gap
 some_gap [] h e = absurd cc
 some_gap (g ∷ []) h e = elim (cases_Bool (joins g h)) [ inl on ↦ let wrong : both_gaps g h ∷ [] ≡ [] = rw on at e in absurd cc | inr off ↦ let wrong : g ∷ h ∷ [] ≡ [] = rw off at e in absurd cc ]
 some_gap (g ∷ k ∷ gs) h e = absurd cc
+
+-- settled gaps stay as they are
+pub settled_with : (settled gs : List Gap) (h : Gap) → AreSettled settled gs → AreSettled settled (with_gap gs h)
+settled_with settled gs h s = record {
+  more = with_gap s.more h;
+  is = ap (λ (l : List Gap). with_gap l h) s.is ∙ gap_behind settled s.more h s.last;
+  last = λ none. absurd (some_gap s.more h none);
+}
 
 -- how many pictures were left out with it
 pub left_more : (gs : List Gap) (h : Gap) → left_pictures (with_gap gs h) ≡ left_pictures gs + h.pictures

@@ -1,5 +1,5 @@
 -- What is answered to a text that is mended, and what stands on output then.
-use Rattle.std.specs.Prelude.{◌≡◌, ℕ, zero, suc, ◌+◌, true, List, [], ◌∷◌, length, Option, Some, None}
+use Rattle.std.specs.Prelude.{◌≡◌, ◌⊎◌, ⊤, ℕ, zero, suc, ◌+◌, true, List, [], ◌∷◌, length, Option, Some, None}
 use Rattle.m2v_port.specs.Ends.{Change}
 use Rattle.m2v_port.specs.Port.{Grows, GrowsByPrefix}
 use Rattle.m2v_model.specs.declared.phase.Phase.TheVariants.{Headers}
@@ -18,6 +18,7 @@ use Rattle.m2v_mend.specs.declared.answer.Answer.TheVariants as answers
 use Rattle.m2v_mend.specs.declared.answer.MendError.{MendError}
 use Rattle.m2v_mend.specs.declared.answer.MendError.TheVariants as errors
 use Rattle.m2v_mend.specs.Making.{fault_told}
+use Rattle.m2v_mend.specs.Listing.{list_of}
 
 -- ---- limits
 
@@ -57,25 +58,32 @@ answer_told (answers.NoneKept fault) = none_kept (fault_told fault)
 abbrev pub mended_bytes : List ℕ → List ℕ
 mended_bytes text = bytes_or_none (mended steps text)
 
--- The text was mended: it passes no limit, this is its answer, and output has grown by the mended text.
-pub record IsMended (text : List ℕ) (held : Change) (a : Answer) : Type 0 where
+-- An endpoint that isn't there: it tells nothing, and never fails.
+abbrev pub absent : Change
+absent = record { old = None; new = None; Failed = ⊥; Unchanged = ⊤ }
+
+-- The text was mended: it passes no limit, this is its answer, output has grown by the mended text, and the list by a line for
+-- each gap.
+pub record IsMended (text : List ℕ) (held list : Change) (a : Answer) : Type 0 where
   pub fits : mend_limit text ≡ None
   pub answer : answer_told a ≡ answer_to steps text
   pub grown : Grows held.old (mended_bytes text) held.new
+  pub listed : Grows list.old (list_of text) list.new
 
--- Of the mended text a prefix was written.
-pub record IsPart (text : List ℕ) (held : Change) : Type 0 where
+-- Of the mended text a prefix was written, and one of the list.
+pub record IsPart (text : List ℕ) (held list : Change) : Type 0 where
   pub grown : GrowsByPrefix held.old (mended_bytes text) held.new
+  pub listed : GrowsByPrefix list.old (list_of text) list.new
 
--- The text passes this limit, and of the mended text a prefix was written.
-pub record IsOver (text : List ℕ) (held : Change) (l : Limit) : Type 0 where
+-- The text passes this limit, and of the mended text and of the list a prefix was written.
+pub record IsOver (text : List ℕ) (held list : Change) (l : Limit) : Type 0 where
   pub passes : mend_limit text ≡ Some l
-  pub part : IsPart text held
+  pub part : IsPart text held list
 
 -- When each error comes, and what stands then.
-abbrev pub Fails : Change → Change → MendError → Type 0
-Fails left held errors.Read = left.Failed × OfText left (λ text. IsPart text held)
-Fails left held errors.Write = held.Failed × OfText left (λ text. IsPart text held)
-Fails left held errors.TooLong = OfText left (λ text. IsOver text held too_long)
-Fails left held errors.PictureTooLarge = OfText left (λ text. IsOver text held too_large)
-Fails left held errors.Memory = OfText left (λ text. IsPart text held)
+abbrev pub Fails : Change → Change → Change → MendError → Type 0
+Fails left held list errors.Read = left.Failed × OfText left (λ text. IsPart text held list)
+Fails left held list errors.Write = (held.Failed ⊎ list.Failed) × OfText left (λ text. IsPart text held list)
+Fails left held list errors.TooLong = OfText left (λ text. IsOver text held list too_long)
+Fails left held list errors.PictureTooLarge = OfText left (λ text. IsOver text held list too_large)
+Fails left held list errors.Memory = OfText left (λ text. IsPart text held list)

@@ -11,6 +11,7 @@ pub mod Copying
 pub mod Putting
 pub mod Making
 pub mod Mender
+pub mod Listing
 pub mod Answers
 pub mod Folded
 pub use Rattle.m2v_law_seam.specs as m2v_law_seam

@@ -1,5 +1,5 @@
 -- Mending under way: what was written, and what is made of what is left of an input.
-use Rattle.std.specs.Prelude.{◌≡◌, ℕ, ◌+◌, ◌-◌, ◌≤◌, nat_eq, if◌then◌else◌, Bool, false, true, List, [], ◌∷◌, ◌++◌, length, Option, Some, None}
+use Rattle.std.specs.Prelude.{◌≡◌, ℕ, ◌+◌, ◌-◌, ◌≤◌, nat_eq, if◌then◌else◌, Bool, false, true, List, [], ◌∷◌, ◌++◌, length, take, drop, Option, Some, None}
 use Rattle.m2v_port.specs.Ends.{Change}
 use Rattle.m2v_port.specs.Port.{Moves, Grows, GrowsByPrefix}
 use Rattle.m2v_model.specs.Units.{Units, cut, joined}
@@ -11,7 +11,7 @@ use Rattle.m2v_decode.specs.m2v_dec_piece.Cutting.{Cutting, start_of, left_of, f
 use Rattle.m2v_decode.specs.Decoding.{whole_of}
 use Rattle.m2v_law_seam.specs.Spans.{units_in, stretches, steps}
 use Rattle.m2v_law_seam.specs.Mending as mending
-use Rattle.m2v_law_seam.specs.Mending.{strands_of}
+use Rattle.m2v_law_seam.specs.Mending.{strands_of, gaps_in}
 use Rattle.m2v_law_seam.specs.Mends.{without_ends}
 use Rattle.m2v_law_seam.specs.Reading.{IsPieceOfUnits}
 use Rattle.m2v_law_seam.specs.Told as told
@@ -22,12 +22,32 @@ use Rattle.m2v_mend.specs.declared.answer.MendError.TheVariants as errors
 use Rattle.m2v_mend.specs.declared.gap.Gap.{Gap}
 use Rattle.m2v_mend.specs.declared.folding.Folding.{Folding}
 use Rattle.m2v_mend.specs.Answers.{first_limit, limit_among, limit_from, mend_limit, answer_told, mended_bytes}
+use Rattle.m2v_mend.specs.Listing.{lines_of, list_of}
 use Rattle.m2v_mend.specs.Feeding.{bare, bare_pieces, stretches_at}
 use Rattle.m2v_mend.specs.Gathering.{Tally, Gathering, with_pieces, before_stretch, stretch_ended, finished, nothing_told, behind_stretches}
 use Rattle.m2v_mend.specs.Making.{IsFolded, IsNextPiece}
 use Rattle.m2v_mend.specs.Members.{IsOneOfUnits}
 
 -- ---- what is written
+
+-- what output holds, and the list
+pub record Held : Type 0 where
+  pub text : Option (List ℕ)
+  pub list : Option (List ℕ)
+
+-- what two sinks hold, by what they tell
+abbrev pub held_by : {K L : Type 0} → (K → Option (List ℕ)) → (L → Option (List ℕ)) → K → L → Held
+held_by text list output other = record { text = text output; list = list other }
+
+-- bytes were written, and the lines of gaps
+pub record HaveGrown (old : Held) (bytes : List ℕ) (gaps : List mending.Gap) (new : Held) : Type 0 where
+  pub text : Grows old.text bytes new.text
+  pub list : Grows old.list (lines_of gaps) new.list
+
+-- of the mended text and of the list a prefix was written
+pub record ArePrefixes (text : List ℕ) (old new : Held) : Type 0 where
+  pub mended : GrowsByPrefix old.text (mended_bytes text) new.text
+  pub listed : GrowsByPrefix old.list (list_of text) new.list
 
 -- why bytes weren't written whole: output failed or memory ran out, and a prefix of them stands
 abbrev pub Cuts : List ℕ → Change → MendError → Type 0
@@ -62,24 +82,40 @@ IsAnswered reading.TooLong e = e ≡ errors.TooLong
 IsAnswered reading.PictureTooLarge e = e ≡ errors.PictureTooLarge
 IsAnswered reading.Memory e = e ≡ errors.Memory
 
+-- all gaps but the last one, which another one may join
+abbrev pub all_but_last : List Gap → List Gap
+all_but_last gaps = take (length gaps - 1) gaps
+
 -- pieces were handed out, and all gaps but the last one let go
 pub record IsForgotten (old new : Folding) : Type 0 where
-  pub front : List Gap
-  pub gaps : old.mender.gaps.items ≡ front ++ new.mender.gaps.items
-  pub last : new.mender.gaps.items ≡ [] → old.mender.gaps.items ≡ []
+  pub gaps : new.mender.gaps.items ≡ drop (length old.mender.gaps.items - 1) old.mender.gaps.items
   pub none : new.mender.out.items ≡ []
   pub same : new ≡ record old { mender = record old.mender { out = new.mender.out; gaps = new.mender.gaps } }
 
 -- bytes were written and gaps let go, and what was made of pieces is told by them
-pub record IsFlushed (held held' : Option (List ℕ)) (old new : Folding) : Type 0 where
+pub record IsFlushed (held held' : Held) (old new : Folding) : Type 0 where
   pub bytes : List ℕ
   pub gaps : List mending.Gap
-  pub grown : Grows held bytes held'
+  pub grown : HaveGrown held bytes gaps held'
   pub folded : (written : List ℕ) (listed : List mending.Gap) (g : Gathering) → IsFolded written listed g old → IsFolded (written ++ bytes) (listed ++ gaps) g new
 
--- behind bytes that were written stands a prefix of what the strands have more
-abbrev pub IsPartOf : Gathering → List ℕ → Option (List ℕ) → Option (List ℕ) → Type 0
-IsPartOf g written held held' = (more : List ℕ) × (joined (strands_of g.tally.made) ≡ written ++ more) × GrowsByPrefix held more held'
+-- These gaps stay as they are, the first of all: another gap joins or follows the last one, which isn't among them.
+pub record AreSettled (settled all : List mending.Gap) : Type 0 where
+  pub more : List mending.Gap
+  pub is : all ≡ settled ++ more
+  pub last : more ≡ [] → settled ≡ []
+
+-- behind bytes and lines that were written stands a prefix of what the strands have more, and of the lines of settled gaps
+pub record IsPartOfMade (m : mending.Mending) (written : List ℕ) (listed : List mending.Gap) (held held' : Held) : Type 0 where
+  pub more : List ℕ
+  pub strands : joined (strands_of m) ≡ written ++ more
+  pub text : GrowsByPrefix held.text more held'.text
+  pub gaps : List mending.Gap
+  pub settled : AreSettled (listed ++ gaps) m.gaps
+  pub list : GrowsByPrefix held.list (lines_of gaps) held'.list
+
+abbrev pub IsPartOf : Gathering → List ℕ → List mending.Gap → Held → Held → Type 0
+IsPartOf g written listed held held' = IsPartOfMade g.tally.made written listed held held'
 
 -- with a piece that may have no byte
 abbrev pub with_whole : Gathering → Piece → Gathering
@@ -89,22 +125,24 @@ with_whole g p = with_pieces g (piece_of (whole_of p))
 abbrev pub IsNextIf : Gathering → Piece → Type 0
 IsNextIf g p = (p.length ≡ length (whole_of p)) × (1 ≤ p.length → IsNextPiece g p)
 
--- it was taken, and bytes were written
-pub record IsTaken (held held' : Option (List ℕ)) (p : Piece) (old new : Folding) : Type 0 where
+-- it was taken, and bytes and lines were written
+pub record IsTaken (held held' : Held) (p : Piece) (old new : Folding) : Type 0 where
   pub bytes : List ℕ
-  pub grown : Grows held bytes held'
-  pub folded : (written : List ℕ) (listed : List mending.Gap) (g : Gathering) → IsFolded written listed g old → IsNextIf g p → (more : List mending.Gap) × IsFolded (written ++ bytes) more (with_whole g p) new
+  pub gaps : List mending.Gap
+  pub grown : HaveGrown held bytes gaps held'
+  pub folded : (written : List ℕ) (listed : List mending.Gap) (g : Gathering) → IsFolded written listed g old → IsNextIf g p → IsFolded (written ++ bytes) (listed ++ gaps) (with_whole g p) new
 
 -- behind a stretch, whose pieces end before a byte
 abbrev pub over_to : Gathering → ℕ → Gathering
 over_to g place = before_stretch (stretch_ended (finished g)) place (g.before ++ units_in g.pieces)
 
--- a stretch has ended, and bytes were written
-pub record IsEnded (held held' : Option (List ℕ)) (old new : Folding) : Type 0 where
+-- a stretch has ended, and bytes and lines were written
+pub record IsEnded (held held' : Held) (old new : Folding) : Type 0 where
   pub bytes : List ℕ
-  pub grown : Grows held bytes held'
+  pub gaps : List mending.Gap
+  pub grown : HaveGrown held bytes gaps held'
   pub folded : (written : List ℕ) (listed : List mending.Gap) (g : Gathering) → IsFolded written listed g old
-      → (more : List mending.Gap) × ((place : ℕ) → g.place + length (joined g.pieces) ≤ place → IsFolded (written ++ bytes) more (over_to g place) new)
+      → (place : ℕ) → g.place + length (joined g.pieces) ≤ place → IsFolded (written ++ bytes) (listed ++ gaps) (over_to g place) new
 
 -- ---- what is left of an input
 
@@ -136,19 +174,17 @@ pub record OnWay (text : List ℕ) (g : Gathering) (start : ℕ) (raws : List (L
   pub limits : mend_limit text ≡ first_limit (limit_among start raws) (limit_from fuel end follows)
 
 -- within a stretch of a text, of which this is left
-pub record InStretch (c : Cutting) (x : Folding) (text written rest : List ℕ) : Type 0 where
+pub record InStretch (c : Cutting) (x : Folding) (text written : List ℕ) (listed : List mending.Gap) (rest : List ℕ) : Type 0 where
   pub gathering : Gathering
-  pub listed : List mending.Gap
   pub folded : IsFolded written listed gathering x
   pub way : OnWay text gathering c.place (left_of c rest) (follows_of c rest)
   pub start : start_of c rest ≡ c.place
   pub total : c.place + length (c.unread ++ rest) ≡ length text
 
 -- before a stretch
-pub record IsBefore (c : Cutting) (x : Folding) (text written rest : List ℕ) : Type 0 where
+pub record IsBefore (c : Cutting) (x : Folding) (text written : List ℕ) (listed : List mending.Gap) (rest : List ℕ) : Type 0 where
   pub tally : Tally
   pub before : Units
-  pub listed : List mending.Gap
   pub folded : (place : ℕ) → c.place ≤ place → IsFolded written listed (before_stretch tally place before) x
   pub made : behind_stretches nothing_told (stretches text) ≡ behind_stretches tally (stretches_at c.place before (c.unread ++ rest))
   pub units : without_ends (cut 0 text).1 ≡ before ++ without_ends (cut 0 (c.unread ++ rest)).1
@@ -159,36 +195,42 @@ pub record IsBefore (c : Cutting) (x : Folding) (text written rest : List ℕ) :
   pub limits : mend_limit text ≡ limit_from fuel c.place (c.unread ++ rest)
 
 -- all pieces of a stretch were read; where it has none, nothing is left
-pub record IsRead (some : Bool) (c : Cutting) (x : Folding) (text written rest : List ℕ) : Type 0 where
-  pub in_stretch : InStretch c x text written rest
+pub record IsRead (some : Bool) (c : Cutting) (x : Folding) (text written : List ℕ) (listed : List mending.Gap) (rest : List ℕ) : Type 0 where
+  pub in_stretch : InStretch c x text written listed rest
   pub ended : c.ended ≡ true
   pub none : some ≡ false → c.unread ++ rest ≡ []
 
 -- a stretch was read
-pub record IsBehind (some : Bool) (c : Cutting) (x : Folding) (text written rest : List ℕ) : Type 0 where
-  pub before : IsBefore c x text written rest
+pub record IsBehind (some : Bool) (c : Cutting) (x : Folding) (text written : List ℕ) (listed : List mending.Gap) (rest : List ℕ) : Type 0 where
+  pub before : IsBefore c x text written listed rest
   pub none : some ≡ false → c.unread ++ rest ≡ []
 
--- bytes were read and written, and where the source tells its bytes, this holds of the text, of what was written, and of what is left
-pub record Comes (Holds : List ℕ → List ℕ → List ℕ → Type 0) (first left start held : Option (List ℕ)) : Type 0 where
+-- what holds of a text, of what was written and listed of it, and of what is left of it
+abbrev pub Standing : Type 1
+Standing = List ℕ → List ℕ → List mending.Gap → List ℕ → Type 0
+
+-- bytes were read, and bytes and lines written; where the source tells its bytes, this holds of the text, of what was written, and
+-- of what is left
+pub record Comes (Holds : Standing) (first left : Option (List ℕ)) (start held : Held) : Type 0 where
   pub bytes : List ℕ
   pub moved : Moves first bytes left
   pub written : List ℕ
-  pub grown : Grows start written held
-  pub told : (rest : List ℕ) → left ≡ Some rest → Holds (bytes ++ rest) written rest
+  pub listed : List mending.Gap
+  pub grown : HaveGrown start written listed held
+  pub told : (rest : List ℕ) → left ≡ Some rest → Holds (bytes ++ rest) written listed rest
 
--- a prefix of the mended text was written
-pub record IsCut (first left start held : Option (List ℕ)) : Type 0 where
+-- a prefix of the mended text was written, and one of its list
+pub record IsCut (first left : Option (List ℕ)) (start held : Held) : Type 0 where
   pub bytes : List ℕ
   pub moved : Moves first bytes left
-  pub told : (rest : List ℕ) → left ≡ Some rest → GrowsByPrefix start (mended_bytes (bytes ++ rest)) held
+  pub told : (rest : List ℕ) → left ≡ Some rest → ArePrefixes (bytes ++ rest) start held
 
--- the input was read to its end: it passes no limit, this is the answer, and the mended text was written
-pub record IsAll (a : Answer) (first left start held : Option (List ℕ)) : Type 0 where
+-- the input was read to its end: it passes no limit, this is the answer, and the mended text and its list were written
+pub record IsAll (a : Answer) (first left : Option (List ℕ)) (start held : Held) : Type 0 where
   pub bytes : List ℕ
   pub moved : Moves first bytes left
   pub told : (rest : List ℕ) → left ≡ Some rest
-      → (answer_told a ≡ answer_to steps (bytes ++ rest)) × Grows start (mended_bytes (bytes ++ rest)) held × (mend_limit (bytes ++ rest) ≡ None)
+      → (answer_told a ≡ answer_to steps (bytes ++ rest)) × HaveGrown start (mended_bytes (bytes ++ rest)) (gaps_in steps (bytes ++ rest)) held × (mend_limit (bytes ++ rest) ≡ None)
 
 -- the answer by the numbers that were counted, where a strand has a byte
 abbrev pub kept_told : Folding → told.Answer

@@ -17,6 +17,7 @@ mod header;
 mod info;
 mod laws;
 mod limits;
+mod listing;
 mod member;
 mod mender;
 mod opening;
@@ -27,6 +28,7 @@ mod strand;
 mod stretch;
 mod sums;
 mod tail;
+mod unlisted;
 mod walk;
 mod whole;
 mod writing;
@@ -39,7 +41,7 @@ pub use info::{PieceInfo, begins_step, info_of, is_second, waits_behind};
 pub use laws::law_edits;
 pub use refusal::Refusal;
 pub use strand::Strand;
-pub use whole::mend;
+pub use whole::{mend, mend_listed};
 
 /// Want of memory.
 pub type Memory = std::alloc::AllocError;

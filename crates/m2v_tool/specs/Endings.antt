@@ -5,7 +5,7 @@ use Rattle.m2v_port.specs.Port.{Grows, GrowsByPrefix}
 use Rattle.m2v_set.specs.declared.unfit.Unfit.{Unfit}
 use Rattle.m2v_model.specs.Pieces.{Limit, too_long, too_large}
 use Rattle.m2v_dec_piece.specs.declared.answer.Fault.{Fault}
-use Rattle.m2v_audit.specs.FaultWords.{fault_word}
+use Rattle.m2v_cut.specs.m2v_decode.FaultWords.{fault_word}
 use Rattle.m2v_tool.specs.declared.report.Report.{Report}
 
 -- a status, and the texts and the numbers of its line, one text before each number

@@ -3,8 +3,7 @@ ghost use Rattle.m2v_model.specs.Pieces.{too_large, too_long};
 ghost use Rattle.m2v_tool.specs.Endings.{IsReport, ending_past, line_text, no_frames, no_memory, read_fault, short_frame, stream_fault, too_many_frames, unfit_ending, usage, write_fault};
 
 use itoa::Buffer;
-use m2v_audit::fault_word;
-use m2v_cut::decode::Fault;
+use m2v_cut::decode::{Fault, fault_word};
 use m2v_set::Unfit;
 use std::alloc::{AllocError, Global};
 

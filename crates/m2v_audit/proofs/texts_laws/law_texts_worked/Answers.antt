@@ -13,7 +13,7 @@ use Rattle.m2v_model.specs.Units as modelUnits
 use Rattle.m2v_dec_piece.specs.Following as following
 use Rattle.m2v_audit.specs.Auditing as auditing
 use Rattle.m2v_audit.specs.Audited as audited
-use Rattle.m2v_audit.specs.FaultWords as faultWords
+use Rattle.m2v_strict.specs.m2v_check.m2v_decode.FaultWords as faultWords
 use Rattle.m2v_audit.specs.Lines as lines
 use Rattle.m2v_audit.specs.WorkedTexts as worked
 use Rattle.m2v_audit.proofs.texts_laws.law_texts_worked.Goals as goal

@@ -38,6 +38,7 @@ loop-e-preserved g c =
       most = omega (arith, inv.most, onward.0);
       onward = λ on. omega (arith, inv.most, onward.0);
       output = stays_on inv.output c.take.ensures.output;
+      list = stays_on inv.list c.take.ensures.list;
       input = omega (arith, inv.input, c.next_piece.ensures.faults);
     }
 

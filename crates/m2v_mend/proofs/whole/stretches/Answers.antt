@@ -14,6 +14,7 @@ loop-feed-preserved g c =
       still = refl;
       ready = c.in_ok-stretch.ensures.ready;
       output = stays_on inv.output c.stretch.ensures.output;
+      list = stays_on inv.list c.stretch.ensures.list;
       input = omega (arith, inv.input, c.stretch.ensures.input);
     })
 

@@ -1,6 +1,6 @@
 //! The words of the kinds of faults.
 ghost use Rattle.std.specs.Prelude.{◌≡◌};
-ghost use Rattle.m2v_audit.specs.FaultWords.{fault_word as word_of};
+ghost use Rattle.m2v_decode.specs.FaultWords.{fault_word as word_of};
 
 use m2v_model::FaultKind;
 
