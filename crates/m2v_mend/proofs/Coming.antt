@@ -4,7 +4,7 @@ use Rattle.std.specs.Prelude.{if◌then◌else◌}
 use Rattle.std.specs.Option.{option_map}
 use Rattle.std.proofs.lemmas.Grind.{flat_map-append}
 use Rattle.std.proofs.lemmas.List.{length-append}
-use Rattle.m2v_port.specs.Port.{Moves, Grows, GrowsByPrefix}
+use Rattle.m2v_port.specs.Port.{Moves, Grows}
 use Rattle.m2v_port.proofs.Runs.{moves_nothing, moves_on, grows_by_nothing, grows_on}
 use Rattle.m2v_model.specs.Units.{cut, joined}
 use Rattle.m2v_model.specs.Pieces.{piece_of, limit, Limit, too_long, too_large}
@@ -21,11 +21,11 @@ use Rattle.m2v_decode.specs.Decoding.{whole_of}
 use Rattle.m2v_law_seam.specs.Spans.{stretches, stretches_from, units_in}
 use Rattle.m2v_law_seam.specs.Mending as mending
 use Rattle.m2v_mend.specs.declared.folding.Folding.{Folding}
-use Rattle.m2v_mend.specs.Answers.{first_limit, limit_among, limit_from, mend_limit, mended_bytes}
+use Rattle.m2v_mend.specs.Answers.{first_limit, limit_among, limit_from, mend_limit}
 use Rattle.m2v_mend.specs.Feeding.{bare_pieces, IsOwn, IsBare, Fed, IsOnward, within, nothing_read}
 use Rattle.m2v_mend.specs.Gathering.{Tally, Gathering, with_pieces, before_stretch, nothing_told, stretch_ended, finished, behind_stretches}
 use Rattle.m2v_mend.specs.Making.{IsFolded}
-use Rattle.m2v_mend.specs.Listing.{gap_line, lines_of}
+use Rattle.m2v_mend.specs.Listing.{gap_line}
 use Rattle.m2v_mend.specs.Stretching.{Held, HaveGrown, ArePrefixes, Standing, Fell, FellOut, IsAnswered, PastLimit, IsPast, IsPartOf, with_whole, IsNextIf, IsTaken, over_to, IsEnded, OnWay, InStretch, IsBefore, IsRead, IsBehind, Comes, IsCut}
 use Rattle.m2v_mend.proofs.Flushing.{part_none, part_text}
 use Rattle.m2v_mend.proofs.Growing.{Grew, grew_on, grew_stretch, grew_stretches}

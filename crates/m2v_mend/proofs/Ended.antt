@@ -30,7 +30,7 @@ use Rattle.m2v_mend.specs.Feeding.{stretches_at}
 use Rattle.m2v_mend.specs.Gathering.{Tally, nothing_told, behind_stretches, IsTally}
 use Rattle.m2v_mend.specs.Making.{gap_told, fault_first, IsMade}
 use Rattle.m2v_mend.specs.Strand.{wholes_of}
-use Rattle.m2v_mend.specs.Stretching.{Held, HaveGrown, ArePrefixes, Cuts, Fell, FellOut, IsBehind, Comes, IsCut, PastLimit, IsPast, IsAll, kept_told}
+use Rattle.m2v_mend.specs.Stretching.{Held, Cuts, Fell, FellOut, IsBehind, Comes, IsCut, PastLimit, IsPast, IsAll, kept_told}
 use Rattle.m2v_mend.proofs.Gathering.{tallied}
 use Rattle.m2v_mend.proofs.Growing.{IsOver, over_ended, done_bytes}
 use Rattle.m2v_mend.proofs.Made.{none_under}

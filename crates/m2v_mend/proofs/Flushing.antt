@@ -2,7 +2,7 @@
 use Rattle.std.proofs.Common.{◌≡◌, ℕ, ◌+◌, ◌-◌, ◌≤◌, List, [], ◌∷◌, ◌++◌, length, map, drop, refl, sym, ap, subst, ◌∙◌, append_assoc, append-nil, arith}
 use Rattle.std.proofs.lemmas.Grind.{flat_map-append}
 use Rattle.std.proofs.lemmas.List.{map-append, nil_from_length, take-append-drop, length-drop}
-use Rattle.m2v_port.specs.Port.{Grows, GrowsByPrefix}
+use Rattle.m2v_port.specs.Port.{GrowsByPrefix}
 use Rattle.m2v_port.proofs.Runs.{grows_by_nothing, grows_by_none, prefix_on, prefix_of_more}
 use Rattle.m2v_model.specs.Units.{joined}
 use Rattle.m2v_model.specs.Pieces.{piece_of}

@@ -1,5 +1,5 @@
 -- The list of what was left out: a line for each gap.
-use Rattle.std.specs.Prelude.{ℕ, List, [], ◌++◌, Option, Some, None, codes, decimal}
+use Rattle.std.specs.Prelude.{ℕ, List, ◌++◌, Option, Some, None, codes, decimal}
 use Rattle.std.specs.List.{flat_map}
 use Rattle.m2v_decode.specs.FaultWords.{fault_word}
 use Rattle.m2v_law_seam.specs.Spans.{steps}
