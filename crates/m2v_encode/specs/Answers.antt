@@ -1,5 +1,5 @@
 -- What coding a raw input answers, and what stands then in input, output and recon.
-use Rattle.std.specs.Prelude.{ℕ, ◌≡◌, ◌<◌, ◌≤◌, ◌/◌, All, List, ◌⊎◌, [], ◌∷◌, ◌++◌, length, None, ⊤}
+use Rattle.std.specs.Prelude.{ℕ, ◌≡◌, ◌<◌, ◌≤◌, ◌/◌, All, List, ◌⊎◌, [], ◌∷◌, ◌++◌, length}
 use Rattle.m2v_port.specs.Ends.{Change}
 use Rattle.m2v_port.specs.Port.{Moves, IsAtEnd, Grows, GrowsByPrefix}
 use Rattle.m2v_plane.specs.Raw.{frame_bytes, raw}
@@ -106,7 +106,3 @@ Stops s left held recon (ShortFrame extra) = EndedShort s left held recon extra
 Stops s left held recon NoFrames = WasEmpty left held recon
 Stops s left held recon TooManyFrames = WentOn s left held recon
 Stops s left held recon Memory = CutOff s left held recon
-
--- A recon that isn't there: it tells nothing, and never fails.
-abbrev pub unshown : Change
-unshown = record { old = None; new = None; Failed = ⊥; Unchanged = ⊤ }

@@ -2,8 +2,7 @@
 use Rattle.std.proofs.Common.{inl, inr}
 use Rattle.std.specs.Prelude.{ℕ, Bool, List, ◌⊎◌, Option, Some, None, ⊤}
 use Rattle.std.specs.Borrow.{MutBor}
-use Rattle.m2v_port.specs.Ends.{Change, change, SinkStays}
-use Rattle.m2v_encode.specs.Answers.{unshown}
+use Rattle.m2v_port.specs.Ends.{Change, change, absent, SinkStays}
 
 -- a place that is lent, or none, as the call left it
 abbrev pub Left : Type 0 → Type 0
@@ -14,7 +13,7 @@ abbrev pub Beside : {N : Type 0} → (N → Option (List ℕ)) → (N → ℕ) �
     → Option (MutBor N) → Left N → Type 0
 Beside held faults Holds (Some place) (inr (inl left)) = Holds (change held faults place.now left.0.now)
 Beside held faults Holds (Some place) _ = ⊥
-Beside held faults Holds None _ = Holds unshown
+Beside held faults Holds None _ = Holds absent
 
 -- The place, where there is one, may take bytes still, under the name that it had, and its count never falls.
 abbrev pub PlaceStays : {N : Type 0} → (N → Bool) → (N → Option (List ℕ)) → (N → ℕ)

@@ -2,7 +2,7 @@
 use Rattle.std.proofs.Common.{◌≡◌, ℕ, ◌*◌, ◌≤◌, All, inl, inr, List, [], ◌∷◌, ◌++◌, length, Option, Some, None, IfSome, Result, Ok, Err, refl, sym, ap, subst, ◌∙◌, arith}
 use Rattle.std.proofs.lemmas.List.{length-append, length-map}
 use Rattle.std.proofs.lemmas.List.Elements.{All-head, All-tail}
-use Rattle.m2v_port.specs.Ends.{Change}
+use Rattle.m2v_port.specs.Ends.{Change, absent}
 use Rattle.m2v_port.specs.Port.{Moves, Rose}
 use Rattle.m2v_port.proofs.Runs.{moved_all}
 use Rattle.m2v_plane.specs.Raw.{raw}
@@ -11,7 +11,7 @@ use Rattle.m2v_order.specs.Calls.{jobs_in, picture_of}
 use Rattle.m2v_order.specs.Coding.{Coding, is_intra, is_anchor, in_order, structures}
 use Rattle.m2v_encode.specs.declared.answer.EncodeError.{EncodeError}
 use Rattle.m2v_encode.specs.declared.answer.EncodeError.TheVariants as encoding
-use Rattle.m2v_encode.specs.Answers.{AreWhole, Stops, unshown}
+use Rattle.m2v_encode.specs.Answers.{AreWhole, Stops}
 use Rattle.m2v_encode.specs.m2v_enc_stream.Streams.{Recon}
 use Rattle.m2v_encode.specs.m2v_law_shown.Laws.{DecodesTo}
 use Rattle.m2v_encode.specs.m2v_enc_stream.Trees.{groups_of}
@@ -64,7 +64,7 @@ moved_few all bytes (Some rest) moved =
 
 -- the frames are whole, and neither their source nor a sink in memory fails
 coding_stops : (seed : ℕ) (left held : Change) (e : EncodeError) → left.old ≡ Some (raw (generated seed)) → (left.Failed → ⊥) → (held.Failed → ⊥)
-    → Stops make_settings left held unshown e → e ≡ encoding.Memory
+    → Stops make_settings left held absent e → e ≡ encoding.Memory
 unfolding Stops
 coding_stops seed left held encoding.Read told read write h = absurd (read h.0)
 coding_stops seed left held encoding.Write told read write (inl failed, cut) = absurd (write failed)
@@ -83,9 +83,9 @@ coding_stops seed left held encoding.TooManyFrames told read write h =
 coding_stops seed left held encoding.Memory told read write h = refl
 
 pub coding_stops_by : (seed : ℕ) (s : Settings) (left held : Change) (e : EncodeError) → s ≡ make_settings → left.old ≡ Some (raw (generated seed)) → (left.Failed → ⊥) → (held.Failed → ⊥)
-    → Stops s left held unshown e → e ≡ encoding.Memory
+    → Stops s left held absent e → e ≡ encoding.Memory
 coding_stops_by seed s left held e is told read write h =
-    coding_stops seed left held e told read write (subst (λ (x : Settings). Stops x left held unshown e) is h)
+    coding_stops seed left held e told read write (subst (λ (x : Settings). Stops x left held absent e) is h)
 
 -- ---- the stream
 

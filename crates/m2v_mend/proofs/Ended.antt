@@ -2,9 +2,9 @@
 use Rattle.std.proofs.Common.{◌≡◌, ℕ, ◌+◌, ◌-◌, ◌*◌, ◌≤◌, ◌⊎◌, inl, inr, true, false, List, [], ◌∷◌, ◌++◌, length, map, Option, Some, None, Result, Ok, Err, IfErr, OnErr, refl, sym, ap, subst, ◌∙◌, append-nil, arith}
 use Rattle.std.specs.Prelude.{nat_eq, if◌then◌else◌}
 use Rattle.std.proofs.lemmas.Grind.{flat_map-append}
-use Rattle.m2v_port.specs.Ends.{Change}
+use Rattle.m2v_port.specs.Ends.{Change, absent}
 use Rattle.m2v_port.specs.Port.{Rose, Grows, GrowsByPrefix}
-use Rattle.m2v_port.proofs.Runs.{rose_since, rose_still, moves_nothing, grows_by_all, grows_by_none, prefix_on, prefix_of_more, grows_on}
+use Rattle.m2v_port.proofs.Runs.{rose_since, rose_still, grows_absent, prefix_absent, failed_here, moves_nothing, grows_by_all, grows_by_none, prefix_on, prefix_of_more, grows_on}
 use Rattle.m2v_model.specs.declared.state.Sequence.{Sequence}
 use Rattle.m2v_model.specs.Pieces.{Limit, too_long, too_large}
 use Rattle.m2v_model.specs.Units.{joined}
@@ -25,7 +25,7 @@ use Rattle.m2v_mend.specs.declared.answer.MendError.{MendError}
 use Rattle.m2v_mend.specs.declared.answer.MendError.TheVariants as errors
 use Rattle.m2v_mend.specs.declared.folding.Folding.{Folding}
 use Rattle.m2v_mend.specs.Listing.{gap_line, lines_of, list_of}
-use Rattle.m2v_mend.specs.Answers.{limit_from, mend_limit, answer_told, mended_bytes, absent, IsMended, IsPart, IsOver as PassesOver, Fails}
+use Rattle.m2v_mend.specs.Answers.{limit_from, mend_limit, answer_told, mended_bytes, IsMended, IsPart, IsOver as PassesOver, Fails}
 use Rattle.m2v_mend.specs.Feeding.{stretches_at}
 use Rattle.m2v_mend.specs.Gathering.{Tally, nothing_told, behind_stretches, IsTally}
 use Rattle.m2v_mend.specs.Making.{gap_told, fault_first, IsMade}
@@ -295,36 +295,26 @@ all_mended left held list a all = record { bytes = all.bytes; moved = all.moved;
 
 -- ---- where no list is wanted
 
-grows_untold : (bytes : List ℕ) → Grows absent.old bytes absent.new
-grows_untold bytes = record { is = refl }
-
-cut_untold : (bytes : List ℕ) → GrowsByPrefix absent.old bytes absent.new
-cut_untold bytes = record { part = []; rest = bytes; split = refl; grown = grows_untold [] }
-
 pub unlisted_mended : (left held list : Change) (a : Answer) → OfText left (λ text. IsMended text held list a) → OfText left (λ text. IsMended text held absent a)
 unlisted_mended left held list a of = record {
   bytes = of.bytes;
   moved = of.moved;
-  told = λ rest e. let m = of.told rest e in record { fits = m.fits; answer = m.answer; grown = m.grown; listed = grows_untold (list_of (of.bytes ++ rest)) };
+  told = λ rest e. let m = of.told rest e in record { fits = m.fits; answer = m.answer; grown = m.grown; listed = grows_absent (list_of (of.bytes ++ rest)) };
 }
 
 unlisted_part : (left held list : Change) → OfText left (λ text. IsPart text held list) → OfText left (λ text. IsPart text held absent)
-unlisted_part left held list of = record { bytes = of.bytes; moved = of.moved; told = λ rest e. record { grown = (of.told rest e).grown; listed = cut_untold (list_of (of.bytes ++ rest)) } }
+unlisted_part left held list of = record { bytes = of.bytes; moved = of.moved; told = λ rest e. record { grown = (of.told rest e).grown; listed = prefix_absent (list_of (of.bytes ++ rest)) } }
 
 unlisted_over : (l : Limit) (left held list : Change) → OfText left (λ text. PassesOver text held list l) → OfText left (λ text. PassesOver text held absent l)
 unlisted_over l left held list of = record {
   bytes = of.bytes;
   moved = of.moved;
-  told = λ rest e. let o = of.told rest e in record { passes = o.passes; part = record { grown = o.part.grown; listed = cut_untold (list_of (of.bytes ++ rest)) } };
+  told = λ rest e. let o = of.told rest e in record { passes = o.passes; part = record { grown = o.part.grown; listed = prefix_absent (list_of (of.bytes ++ rest)) } };
 }
-
-only_output : (A B : Type 0) → (B → ⊥) → A ⊎ B → A ⊎ ⊥
-only_output A B never (inl a) = inl a
-only_output A B never (inr b) = absurd (never b)
 
 pub unlisted_fails : (left held list : Change) (e : MendError) → (list.Failed → ⊥) → Fails left held list e → Fails left held absent e
 unlisted_fails left held list errors.Read never f = (f.0, unlisted_part left held list f.1)
-unlisted_fails left held list errors.Write never f = (only_output held.Failed list.Failed never f.0, unlisted_part left held list f.1)
+unlisted_fails left held list errors.Write never f = (failed_here never f.0, unlisted_part left held list f.1)
 unlisted_fails left held list errors.TooLong never f = unlisted_over too_long left held list f
 unlisted_fails left held list errors.PictureTooLarge never f = unlisted_over too_large left held list f
 unlisted_fails left held list errors.Memory never f = unlisted_part left held list f

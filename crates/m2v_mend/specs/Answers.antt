@@ -1,5 +1,5 @@
 -- What is answered to a text that is mended, and what stands on output then.
-use Rattle.std.specs.Prelude.{◌≡◌, ◌⊎◌, ⊤, ℕ, zero, suc, ◌+◌, true, List, [], ◌∷◌, length, Option, Some, None}
+use Rattle.std.specs.Prelude.{◌≡◌, ◌⊎◌, ℕ, zero, suc, ◌+◌, true, List, [], ◌∷◌, length, Option, Some, None}
 use Rattle.m2v_port.specs.Ends.{Change}
 use Rattle.m2v_port.specs.Port.{Grows, GrowsByPrefix}
 use Rattle.m2v_model.specs.declared.phase.Phase.TheVariants.{Headers}
@@ -57,10 +57,6 @@ answer_told (answers.NoneKept fault) = none_kept (fault_told fault)
 -- the bytes of the mended text; none where there is no strand
 abbrev pub mended_bytes : List ℕ → List ℕ
 mended_bytes text = bytes_or_none (mended steps text)
-
--- An endpoint that isn't there: it tells nothing, and never fails.
-abbrev pub absent : Change
-absent = record { old = None; new = None; Failed = ⊥; Unchanged = ⊤ }
 
 -- The text was mended: it passes no limit, this is its answer, output has grown by the mended text, and the list by a line for
 -- each gap.

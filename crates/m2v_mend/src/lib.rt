@@ -28,7 +28,6 @@ mod strand;
 mod stretch;
 mod sums;
 mod tail;
-mod unlisted;
 mod walk;
 mod whole;
 mod writing;

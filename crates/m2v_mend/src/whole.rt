@@ -1,11 +1,11 @@
 //! The mending of a whole input.
 ghost use Rattle.std.specs.Prelude.{◌≡◌, ◌*◌, ◌^◌, ◌≤◌, ◌⊎◌, ℕ, List, Option, [], true, false, IsTrue, IfOk, IfErr, OnOk, OnErr};
-ghost use Rattle.m2v_port.specs.Ends.{change, SinkStays};
+ghost use Rattle.m2v_port.specs.Ends.{absent, change, SinkStays};
 ghost use Rattle.m2v_port.specs.Port.{Rose};
 ghost use Rattle.m2v_decode.specs.Answers.{OfText};
 ghost use Rattle.m2v_decode.specs.m2v_dec_piece.Cutting.{Cutting};
 ghost use Rattle.m2v_law_seam.specs.Told.{none_kept};
-ghost use Rattle.m2v_mend.specs.Answers.{answer_told, absent, IsMended, Fails};
+ghost use Rattle.m2v_mend.specs.Answers.{answer_told, IsMended, Fails};
 ghost use Rattle.m2v_mend.specs.Making.{fault_first, IsFoldReady};
 ghost use Rattle.m2v_mend.specs.Stretching.{Fell, FellOut, Held, held_by, IsBefore, IsBehind, Comes, IsCut, IsPast, IsAll, kept_told};
 
@@ -16,11 +16,10 @@ use crate::folding::Folding;
 use crate::listing::put_lines;
 use crate::stretch::stretch;
 use crate::sums::sum;
-use crate::unlisted::Unlisted;
 use crate::writing::put;
 use m2v_decode::Fault;
 use m2v_model::FaultKind;
-use m2v_port::{Sink, Source};
+use m2v_port::{Nowhere, Sink, Source};
 use std::alloc::Global;
 
 /// The answer where a strand has a byte.
@@ -190,6 +189,6 @@ pub fn mend<S: Source, K: Sink>(
     ensures output { SinkStays K.ready K.name K.faults output.old output.new }
     ensures input { S.faults input.old ≤ S.faults input.new }
 {
-    let mut list = Unlisted;
+    let mut list = Nowhere;
     mend_listed(alloc, input, output, &mut list)
 }

@@ -1,9 +1,9 @@
 -- How the calls of an endpoint follow one another: what holds of a run, from what holds of its parts.
-use Rattle.std.proofs.Common.{◌≡◌, inl, inr, ℕ, zero, suc, ◌+◌, ◌-◌, ◌^◌, ◌<◌, ◌≤◌, Bool, IsTrue, List, [], ◌∷◌, ◌++◌, length, take, Option, Some, None, IfSome, Result, Ok, Err, OnErr, refl, sym, ◌∙◌, ap, subst, arith, append_assoc, length-append}
+use Rattle.std.proofs.Common.{◌≡◌, ◌⊎◌, inl, inr, ℕ, zero, suc, ◌+◌, ◌-◌, ◌^◌, ◌<◌, ◌≤◌, Bool, IsTrue, List, [], ◌∷◌, ◌++◌, length, take, Option, Some, None, IfSome, Result, Ok, Err, OnErr, refl, sym, ◌∙◌, ap, subst, arith, append_assoc, length-append}
 use Rattle.std.specs.Option.{option_map}
 use Rattle.std.proofs.lemmas.List.{append-nil, length-take-le, take-append-le}
 use Rattle.m2v_port.specs.Port.{Rose, Moves, IsAtEnd, Grows, GrowsByPrefix}
-use Rattle.m2v_port.specs.Ends.{Change, Tells, SinkStays}
+use Rattle.m2v_port.specs.Ends.{Change, absent, Tells, SinkStays}
 
 -- A count that rose in the last part rose in the whole.
 pub rose_since : {before between now : ℕ} → before ≤ between → Rose between now → Rose before now
@@ -110,6 +110,26 @@ prefix_of_more by more = record {
   split = ap (λ l. l ++ more) by.split ∙ append_assoc by.part by.rest more;
   grown = by.grown;
 }
+
+-- what tells nothing grows by any bytes
+pub grows_absent : (bytes : List ℕ) → Grows absent.old bytes absent.new
+grows_absent bytes = record { is = refl }
+
+pub grows_untold : (held : Option (List ℕ)) (bytes : List ℕ) → held ≡ None → Grows held bytes held
+grows_untold held bytes none = subst (λ (o : Option (List ℕ)). Grows o bytes o) (sym none) (grows_absent bytes)
+
+-- and by any prefix
+pub prefix_absent : (bytes : List ℕ) → GrowsByPrefix absent.old bytes absent.new
+prefix_absent bytes = record { part = []; rest = bytes; split = refl; grown = grows_absent [] }
+
+-- and goes on to tell nothing
+pub still_untold : (old new : Option (List ℕ)) (bytes : List ℕ) → old ≡ None → Grows old bytes new → new ≡ None
+still_untold old new bytes none grown = grown.is ∙ ap (option_map (λ held. held ++ bytes)) none
+
+-- where the other one never fails, it was this one
+pub failed_here : {A B : Type 0} → (B → ⊥) → A ⊎ B → A ⊎ ⊥
+failed_here never (inl a) = inl a
+failed_here never (inr b) = absurd (never b)
 
 -- a fact that holds after an error holds
 pub on_err : {T E P : Type 0} (result : Result T E) → P → OnErr result P

@@ -1,5 +1,5 @@
 -- What calls do to an endpoint: the one form in which the crates above speak of it.
-use Rattle.std.specs.Prelude.{◌≡◌, ℕ, ◌≤◌, Bool, IsTrue, List, Option, IfSome}
+use Rattle.std.specs.Prelude.{◌≡◌, ℕ, ◌≤◌, Bool, IsTrue, List, Option, None, IfSome, ⊤}
 use Rattle.m2v_port.specs.Port.{Rose}
 
 -- What an endpoint told of its bytes before and after, whether its count of faults rose, and whether it is as it was,
@@ -13,6 +13,10 @@ pub record Change : Type 1 where
 -- the change from one state of an endpoint to another, by what it tells and its count
 abbrev pub change : {E : Type 0} → (E → Option (List ℕ)) → (E → ℕ) → E → E → Change
 change tells faults old new = record { old = tells old; new = tells new; Failed = Rose (faults old) (faults new); Unchanged = new ≡ old }
+
+-- An endpoint that isn't there: it tells nothing, and never fails.
+abbrev pub absent : Change
+absent = record { old = None; new = None; Failed = ⊥; Unchanged = ⊤ }
 
 -- Where the endpoint told its bytes before, this holds of them.
 abbrev pub Tells : Change → (List ℕ → Type 0) → Type 0

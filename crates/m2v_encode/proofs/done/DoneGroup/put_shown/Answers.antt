@@ -1,6 +1,5 @@
-use Rattle.m2v_port.proofs.Runs.{grows_by_none, stays_here}
+use Rattle.m2v_port.proofs.Runs.{grows_by_none, grows_untold, stays_here}
 use Rattle.m2v_encode.specs.Steps.{PutStops}
-use Rattle.m2v_encode.proofs.WithoutRecon.{grows_untold}
 use Rattle.m2v_encode.proofs.done.DoneGroup.put_shown.Goals as goal
 
 pub returns-in-Ok : goal.returns-in-Ok

@@ -1,7 +1,7 @@
 use Rattle.std.proofs.Common.{arith, refl, ap, subst, sym, Ok, ◌∙◌, [], ◌∷◌, length}
 use Rattle.std.proofs.lemmas.Result.{err_from_is_err_and}
 use Rattle.std.proofs.lemmas.List.{length-append}
-use Rattle.m2v_port.proofs.Runs.{stays_here, stays_on}
+use Rattle.m2v_port.proofs.Runs.{stays_here, stays_on, still_untold}
 use Rattle.m2v_plane.specs.Raw.{pad}
 use Rattle.m2v_plane.specs.Samples.{Samples}
 use Rattle.m2v_set.specs.Numbers.{dims_of}
@@ -13,7 +13,6 @@ use Rattle.m2v_encode.specs.declared.group.Coder.{Coder}
 use Rattle.m2v_encode.proofs.Due.{some_bytes}
 use Rattle.m2v_encode.proofs.Loop.{goes_fresh, opening_rest, sound_read, turned}
 use Rattle.m2v_encode.proofs.Progress.{so_far_none, so_far_read, so_far_due, so_far_same, frame_stopped, due_stopped, all_ended, all_stopped, look_stopped, went_on}
-use Rattle.m2v_encode.proofs.WithoutRecon.{still_untold}
 use Rattle.m2v_encode.proofs.group.Coder.code_all.Goals as goal
 
 pub loop-number-init : goal.loop-number-init

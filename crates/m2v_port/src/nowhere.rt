@@ -1,13 +1,13 @@
-//! Where no list is wanted.
+// A sink for what nobody wants.
 ghost use Rattle.std.specs.Prelude.{true, None};
 
-use m2v_port::{PortError, Sink};
+use crate::{PortError, Sink};
 
-/// A sink that drops what is put. No call of it fails.
+/// A sink that drops what is put, and tells nothing. No call of it fails.
 #[derive(Drop)]
-pub(crate) struct Unlisted;
+pub struct Nowhere;
 
-impl Sink for Unlisted {
+impl Sink for Nowhere {
     ghost held = { λ _. None };
 
     ghost faults = { λ _. 0 };
