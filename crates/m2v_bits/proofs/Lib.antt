@@ -7,3 +7,4 @@ pub mod Decisions
 pub mod Units
 pub mod Outputs
 pub mod Texts
+pub mod PairLaws

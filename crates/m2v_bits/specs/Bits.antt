@@ -1,5 +1,5 @@
 -- A text of bits, the first bit first; `true` is 1 (clause 4.6 of ISO/IEC 13818-2: bits stand in bytes the highest first).
-use Rattle.std.specs.Prelude.{◌≡◌, ℕ, zero, suc, ◌+◌, ◌/◌, ◌%◌, ◌-◌, ◌^◌, ◌<◌, Bool, true, false, ◌==◌, cond, List, [], ◌∷◌, ◌++◌, length, drop, replicate, slice_index}
+use Rattle.std.specs.Prelude.{◌≡◌, ℕ, zero, suc, ◌+◌, ◌/◌, ◌%◌, ◌-◌, ◌^◌, ◌<◌, Bool, true, false, ◌==◌, cond, List, [], ◌∷◌, ◌++◌, length, drop, get_or, replicate, slice_index}
 use Rattle.std.specs.List.{flat_map}
 
 -- the n lowest bits of v, the highest of them first
@@ -89,3 +89,7 @@ pub record IsSound (r : Unread) : Type 0 where
 -- the prefix of a start code, 00 00 01, stands at byte i (clause 5.2.3)
 abbrev pub IsStartCode : List ℕ → ℕ → Type 0
 IsStartCode bytes i = (i + 2 < length bytes) × (slice_index bytes i ≡ 0) × (slice_index bytes (i + 1) ≡ 0) × (slice_index bytes (i + 2) ≡ 1)
+
+-- of the first bytes, so many, none begins a pair of zeros; behind the last byte stands 0
+abbrev pub HasNoPair : ℕ → List ℕ → Type 0
+HasNoPair n bytes = (k : ℕ) → k < n → 0 < get_or bytes k 0 + get_or bytes (k + 1) 0

@@ -5,12 +5,14 @@
 mod elements;
 mod low;
 mod output;
+mod pairs;
 mod reader;
 mod start;
 mod writer;
 
 pub use elements::{check, flag, number};
 pub use output::{BitCount, BitOutput};
+pub use pairs::before_pair;
 pub use reader::BitReader;
 pub use start::next_start_code;
 pub use writer::BitWriter;

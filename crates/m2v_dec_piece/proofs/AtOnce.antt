@@ -9,7 +9,7 @@ use Rattle.m2v_model.specs.Pieces.{limit, Limit, too_large, most_input, most_byt
 use Rattle.m2v_dec_piece.specs.Cutting.{Held, Fits, Took, TookAll, IsRun, behind, limit_in, limit_of, pieces_behind, start_behind, follows_behind}
 use Rattle.m2v_dec_piece.specs.Stepping.{Reaches, before_more}
 use Rattle.m2v_dec_piece.proofs.LimitLaws.{behind_none, behind_more, limit_of_more, limit_of_stays}
-use Rattle.m2v_dec_piece.proofs.PairLaws.{run_tail, run_last, run_pair}
+use Rattle.m2v_dec_piece.proofs.RunLaws.{run_tail, run_last, run_pair}
 use Rattle.m2v_dec_piece.proofs.Steps.{took_other, took_longer}
 
 -- few bytes pass no limit

@@ -4,7 +4,7 @@ pub mod TextLaws
 pub mod TrimLaws
 pub mod LimitLaws
 pub mod WholeLaws
-pub mod PairLaws
+pub mod RunLaws
 pub mod Steps
 pub mod Stands
 pub mod AtOnce

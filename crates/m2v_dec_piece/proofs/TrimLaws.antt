@@ -5,7 +5,7 @@ use Rattle.std.proofs.lemmas.Bool.{ne_eqb}
 use Rattle.std.proofs.lemmas.List.{reverse-append, length-append, length-replicate, take_at}
 use Rattle.m2v_model.specs.Pieces.{zeros_first, zeros_last, trimmed}
 use Rattle.m2v_dec_piece.specs.Cutting.{IsRun}
-use Rattle.m2v_dec_piece.proofs.PairLaws.{run_tail, run_last}
+use Rattle.m2v_dec_piece.proofs.RunLaws.{run_tail, run_last}
 
 -- none stands behind a byte that isn't zero
 pub zeros_last_end : (xs : List ℕ) (b : ℕ) → b ≢ 0 → zeros_last (xs ++ b ∷ []) ≡ 0

@@ -3,6 +3,7 @@ use Rattle.std.specs.Prelude.{◌≡◌, ◌⊎◌, ℕ, suc, ◌+◌, ◌<◌, 
 use Rattle.m2v_model.specs.declared.phase.Phase.{Phase}
 use Rattle.m2v_model.specs.declared.phase.Phase.TheVariants.{Before, Headers, Picture}
 use Rattle.m2v_model.specs.Units.{cut}
+use Rattle.m2v_model.specs.m2v_bits.Bits.{HasNoPair}
 use Rattle.m2v_model.specs.Pieces.{grouped, before_pieces, limit, Limit, too_long, too_large, most_input, trimmed, phase_after, is_end, begins_piece}
 use Rattle.m2v_dec_piece.specs.Following.{following_in}
 use Rattle.m2v_dec_piece.specs.declared.answer.Piece.{Piece}
@@ -122,10 +123,6 @@ pub record Took (old : Held) (b : ℕ) (new : Held) : Type 0 where
   pub more : new.place + (length new.sure + new.ahead) ≡ suc (old.place + (length old.sure + old.ahead))
   pub onward : old.place ≤ new.place
   pub fits : Fits new
-
--- of the first bytes, so many, none begins a pair of zeros; behind the last byte stands 0
-abbrev pub HasNoPair : ℕ → List ℕ → Type 0
-HasNoPair n bytes = (k : ℕ) → k < n → 0 < get_or bytes k 0 + get_or bytes (k + 1) 0
 
 -- bytes in which no two zeros stand together, and that don't end in one
 abbrev pub IsRun : List ℕ → Type 0

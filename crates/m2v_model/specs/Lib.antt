@@ -24,6 +24,7 @@ pub mod Verdicts
 pub mod Texts
 pub mod Chains
 pub mod Painting
+pub use Rattle.m2v_bits.specs as m2v_bits
 pub use Rattle.m2v_macroblock.specs.m2v_macro
 pub use Rattle.m2v_macroblock.specs as m2v_macroblock
 pub use Rattle.m2v_macroblock.specs.m2v_pred

@@ -24,6 +24,7 @@ pub use laws::{
     law_by_pieces, law_macroblock_spelled, law_one_verdict, law_pictures_in_turn, law_prefix,
     law_safe_account, law_unique, law_verdict_rows, law_worked_rows,
 };
+pub use m2v_bits as bits;
 pub use m2v_macroblock::macro_library;
 pub use notes::{Notes, PictureNote};
 pub use phase::Phase;

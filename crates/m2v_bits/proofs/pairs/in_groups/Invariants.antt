@@ -1,6 +1,6 @@
 use Rattle.std.proofs.Common.{◌*◌}
-use Rattle.m2v_dec_piece.specs.Cutting.{HasNoPair}
-use Rattle.m2v_dec_piece.proofs.runs.in_groups.Given as goal
+use Rattle.m2v_bits.specs.Bits.{HasNoPair}
+use Rattle.m2v_bits.proofs.pairs.in_groups.Given as goal
 
 abbrev pub invariant-loop-group : goal.invariant-loop-group
 invariant-loop-group l = HasNoPair (16 * l.group) l.bytes

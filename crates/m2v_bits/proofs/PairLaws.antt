@@ -1,8 +1,8 @@
 -- Bytes in which no two zeros stand together.
-use Rattle.std.proofs.Common.{◌≡◌, ◌⊎◌, inl, inr, ℕ, suc, ◌+◌, ◌-◌, ◌≤◌, ◌<◌, List, [], ◌∷◌, get_or, take, drop, ap, ◌∙◌, arith}
+use Rattle.std.proofs.Common.{◌≡◌, ◌⊎◌, inl, inr, ℕ, ◌+◌, ◌-◌, ◌≤◌, ◌<◌, List, get_or, take, drop, ap, ◌∙◌, arith}
 use Rattle.std.proofs.lemmas.Bool.{cases_lt}
 use Rattle.std.proofs.lemmas.List.{get_or-take, get_or-drop}
-use Rattle.m2v_dec_piece.specs.Cutting.{HasNoPair, IsRun}
+use Rattle.m2v_bits.specs.Bits.{HasNoPair, IsStartCode}
 
 -- 16 bytes more, with the one behind them
 pub pair_more : (bytes : List ℕ) (n : ℕ) → HasNoPair n bytes → HasNoPair 16 (take ((n + 17) - n) (drop n bytes)) → HasNoPair (n + 16) bytes
@@ -20,17 +20,11 @@ pair_more bytes n some more k lt = by_place (cases_lt k n)
         let second = at (k - n + 1) (omega (arith, lt, above)) ∙ ap (λ i. get_or bytes i 0) next in
         omega (arith, more (k - n) (omega (arith, lt, above)), first, second)
 
--- ---- by the first byte
-
-pub run_tail : (b : ℕ) (bs : List ℕ) → IsRun (b ∷ bs) → IsRun bs
-run_tail b bs run k lt =
-    let first : k + 1 ≡ suc k = omega arith in
-    let second : k + 1 + 1 ≡ suc (k + 1) = omega arith in
-    let from = run (k + 1) (omega (arith, lt)) in
-    omega (arith, from, ap (λ i. get_or (b ∷ bs) i 0) first, ap (λ i. get_or (b ∷ bs) i 0) second)
-
-pub run_last : (b : ℕ) → IsRun (b ∷ []) → 0 < b
-run_last b run = omega (arith, run 0 (omega arith))
-
-pub run_pair : (bs : List ℕ) → IsRun (0 ∷ 0 ∷ bs) → ⊥
-run_pair bs run = absurd (omega (arith, run 0 (omega arith)))
+-- no start code begins where no pair of zeros does
+pub pair_first : (bytes : List ℕ) (from n : ℕ) → HasNoPair n (drop from bytes) → (k : ℕ) → from ≤ k → k < from + n → IsStartCode bytes k → ⊥
+pair_first bytes from n none k le lt code =
+    let e : from + (k - from) ≡ k = omega (arith, le) in
+    let next : from + (k - from + 1) ≡ k + 1 = omega (arith, le) in
+    let first = get_or-drop from bytes (k - from) 0 ∙ ap (λ i. get_or bytes i 0) e in
+    let second = get_or-drop from bytes (k - from + 1) 0 ∙ ap (λ i. get_or bytes i 0) next in
+    omega (arith, none (k - from) (omega (arith, le, lt)), first, second, code.1, code.2)

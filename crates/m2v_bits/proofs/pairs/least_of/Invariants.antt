@@ -1,5 +1,5 @@
 use Rattle.std.proofs.Common.{◌<◌, ◌≤◌, ◌+◌, ℕ, get_or}
-use Rattle.m2v_dec_piece.proofs.runs.least_of.Given as goal
+use Rattle.m2v_bits.proofs.pairs.least_of.Given as goal
 
 abbrev pub invariant-loop-j : goal.invariant-loop-j
 invariant-loop-j l = (k : ℕ) → k < l.j → l.least ≤ get_or l.group k 0 + get_or l.group (k + 1) 0

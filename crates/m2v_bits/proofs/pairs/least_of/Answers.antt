@@ -1,5 +1,5 @@
 use Rattle.std.proofs.Common.{◌≤◌, ◌+◌, get_or, arith, below_more}
-use Rattle.m2v_dec_piece.proofs.runs.least_of.Goals as goal
+use Rattle.m2v_bits.proofs.pairs.least_of.Goals as goal
 
 pub loop-j-preserved : goal.loop-j-preserved
 loop-j-preserved c =

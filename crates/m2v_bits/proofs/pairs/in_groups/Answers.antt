@@ -1,7 +1,7 @@
 use Rattle.std.proofs.Common.{◌+◌, ◌*◌, ◌≡◌, ◌<◌, subst, sym, arith}
-use Rattle.m2v_dec_piece.specs.Cutting.{HasNoPair}
-use Rattle.m2v_dec_piece.proofs.PairLaws.{pair_more}
-use Rattle.m2v_dec_piece.proofs.runs.in_groups.Goals as goal
+use Rattle.m2v_bits.specs.Bits.{HasNoPair}
+use Rattle.m2v_bits.proofs.PairLaws.{pair_more}
+use Rattle.m2v_bits.proofs.pairs.in_groups.Goals as goal
 
 pub loop-group-preserved : goal.loop-group-preserved
 loop-group-preserved c =

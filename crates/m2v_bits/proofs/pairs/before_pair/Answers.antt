@@ -1,5 +1,5 @@
 use Rattle.std.proofs.Common.{◌<◌, ◌+◌, get_or, arith, below_more}
-use Rattle.m2v_dec_piece.proofs.runs.before_pair.Goals as goal
+use Rattle.m2v_bits.proofs.pairs.before_pair.Goals as goal
 
 pub loop-n-preserved : goal.loop-n-preserved
 loop-n-preserved c =
