@@ -5,14 +5,17 @@
     bench/cases/mend_cases.py --self-test
 
 Each case says by hand what is wanted, put together of the same pictures; bench/cases/mended.py is to give the same, or no
-case is printed. The line's numbers are those of mended.py, counted once more in what is wanted. With --self-test all that
-is wanted has no fault by bench/cases/faults.py, and is mended already; and bench/cases/pictures_decoder.py decodes it to
-grey frames, but for streams with many bytes. No value was taken from the program."""
+case is printed. The line's numbers are those of mended.py, counted once more in what is wanted. So it is with what lists
+say. With --self-test all that is wanted has no fault by bench/cases/faults.py, and is mended already; and
+bench/cases/pictures_decoder.py decodes it to grey frames, but for streams with many bytes. No value was taken from the
+program."""
 
 import sys
 
+import mended
 from faults import first_fault
 from mended import END_CODE, MOST_PIECE, cut, frames_in, grouped, mend
+from mend_lists import SECTIONS, SHARED
 from mend_streams import (
     ASPECT, B, BARE, BEHIND_P, BOTTOM, BROKEN, CLOSED, CLOSED_SEAM, DISPLAY, END, FIELDS, FILM, FIRST, FIRST_SEAM,
     I, I_P, LATER, LATER_SEAM, LEAD, LOW, MATRICES, MPEG1, NAMED, OPEN, P, P_5, P_STEP, RATE, RATE_N, S, SEAM,
@@ -24,6 +27,7 @@ from table_lines import comment_lines, runs, stream_words
 
 PICTURE, SEQUENCE_END, HEADERS = 0x00, 0xB7, (0xB3, 0xB8)
 MANY = 300000
+WITH_LIST, LISTED = 'mend with a list: ', 'mend --list gaps'
 CASES, KEPT = [], []
 
 
@@ -101,19 +105,38 @@ def add(name, comment, lines):
     CASES.append((name, comment, lines))
 
 
-def case(name, data, kept, comment='', more=(), instead=None):
+def case(name, data, kept, comment='', more=(), instead=None, words='mend', behind=()):
     """An input, and what is kept of it, without the end code; or a status and a line where something stands instead."""
     large = is_large(data)
     status, line = instead or wanted(data, kept)
     if large and not instead:
         status, line, more = 14, 'picture too large', [*more, 'prefix 0']
-    lines = ['words mend', *lines_of('input', words_of(data)), *more]
+    lines = ['words ' + words, *lines_of('input', words_of(data)), *more]
     lines += ['status %d' % status] if status else []
     lines += ['report ' + line] if line else []
     if isinstance(kept, bytes):
         lines += lines_of('output', words_of(kept + END_CODE))
         KEPT.append((name, kept + END_CODE))
-    add('mend: ' + name, comment, lines)
+    add(('mend: ' if words == 'mend' else WITH_LIST) + name, comment, [*lines, *behind])
+
+
+def row_of(frames, before, left, fault):
+    return frames, len(before), len(left), pictures_in(left), fault
+
+
+def row_lines(key, rows):
+    """The lines of a list, each with its text as a comment."""
+    for text in mended.lines_of(rows):
+        yield from ('# ' + text.rstrip(), *lines_of(key, [runs(text.encode())]))
+
+
+def listed(name, data, kept, gaps, comment='', more=(), words=LISTED, file='gaps'):
+    """The same with a list of its gaps; where a limit is passed, of those that were known by then."""
+    assert all(data.startswith(before + left) for _, before, left, _ in gaps), name
+    rows = [row_of(*gap) for gap in gaps]
+    assert rows == mend(data)[3][:len(rows) if is_large(data) else None], name
+    held = ['recon = mend_gaps'] if gaps == SHARED else list(row_lines('recon', rows))
+    case(name, data, kept, comment, more, None, words, [*held, 'recon_name ' + file])
 
 
 def heading(text):
@@ -339,7 +362,30 @@ def endpoints():
     case('the report fails where some is left out', some, kept, more=['fail report 1'], instead=(18, ''),
          comment='All of the output stands by then, and the status says what is missing, as of a report of audit.')
     for line in ('mend 1', 'mend --top'):
-        add('words: ' + line, '', ['words ' + line, 'status 2', 'report usage'])
+        usage(line)
+
+
+def usage(line):
+    add('words: ' + line, '', ['words ' + line, 'status 2', 'report usage'])
+
+
+def lists():
+    for title, of_cases in SECTIONS:
+        heading('mend: ' + title)
+        for of_case in of_cases:
+            listed(**of_case)
+    heading('mend: lists that do not open, and words')
+    stream = ['input = mend_first = mend_end = mend_second']
+    for name, inputs, more in (
+            ('the list does not open', stream, []), ('the list does not open, before no byte', [], []),
+            ('the list does not open, before an input and an output that fail', stream, ['fail input 1', 'fail output 1'])):
+        add(WITH_LIST + name, '',
+            ['words ' + LISTED, *inputs, 'fail recon 1', *more, 'status 8', 'report write fault'])
+    add(WITH_LIST + 'the input fails at its first call', 'The list is open by then.',
+        ['words ' + LISTED, *stream, 'fail input 1', 'status 7', 'report read fault', 'recon_name gaps'])
+    for line in ('mend --list', 'mend --list gaps --list gaps', 'mend --list gaps more', 'mend gaps --list gaps',
+                 'mend --list --', 'mend --lis gaps', 'mend -l gaps', 'mend --recon gaps', 'decode --list gaps'):
+        usage(line)
 
 
 def printed():
@@ -347,6 +393,7 @@ def printed():
     yield from ('', '# ---- mend: headers, pictures and groups')
     for part, name in NAMED.items():
         yield from ('', 'stream ' + name, *lines_of('bytes', stream_words(part)))
+    yield from ('', 'stream mend_gaps', *row_lines('bytes', [row_of(*gap) for gap in SHARED]))
     for name, comment, lines in CASES:
         yield ''
         yield from comment_lines(comment if name else '---- ' + comment) if comment else ()
@@ -365,7 +412,7 @@ def self_test():
 
 
 def main():
-    for more in (nothing, whole, joined, damaged, heads, seams, limits, endpoints):
+    for more in (nothing, whole, joined, damaged, heads, seams, limits, endpoints, lists):
         more()
     if sys.argv[1:] == ['--self-test']:
         print('%d mended streams, without a fault and mended already' % self_test())
