@@ -70,9 +70,9 @@ def singles():
 
 def several():
     broken = S + OPEN + less(i(2))
-    yield of('a slice less in an I picture', lost('second', 0), FIRST + THIRD_SEAM,
-             (4, FIRST, broken + LEAD + P_5, missing(FIRST, broken)),
-             (4, FIRST + broken + LEAD + P_5 + THIRD_FRONT, LEAD, None), comment='Two steps are one gap, with the fault of the first.')
+    steps = broken + LEAD + P_5
+    yield of('a slice less in an I picture', lost('second', 0), FIRST + THIRD_SEAM, (4, FIRST, steps, missing(FIRST, broken)),
+             (4, FIRST + steps + THIRD_FRONT, LEAD, None), comment='Two steps are one gap, with the fault of the first.')
     group = BROKEN + P_STEP
     fault = missing(b'', BROKEN)
     yield of('four steps in a row', group + group, fault, (0, b'', group + group, fault), comment='Nothing is kept.')

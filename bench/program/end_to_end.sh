@@ -3,9 +3,9 @@
 #
 #     bench/program/end_to_end.sh [PROGRAM]
 #
-# It compares status, the line on standard error, standard output and the file of --recon with stated values: streams
-# that were worked out by hand, and what docs/COMMANDS.md says. The last line is `N passed, M failed`; it fails where
-# one failed.
+# It compares status, the line on standard error, standard output and the files of --recon and --list with stated values:
+# streams that were worked out by hand, and what docs/COMMANDS.md says. The last line is `N passed, M failed`; it fails
+# where one failed.
 set -u
 top=$(dirname "$(dirname "$(dirname "$(readlink -f "$0")")")")
 program=$(readlink -f "${1:-$top/crates/m2v_main/out/m2v_main}")
@@ -145,6 +145,20 @@ head -c 70 two.m2v > in
 holds 'mend: a stream that breaks off' 18 'groups 1 of 1 pictures 1 of 2 bytes 60' begun_two.m2v mend
 tail -c +57 two.m2v > in
 holds 'mend: a stream without its beginning' 19 'nothing kept stream NoSequence at bit 0' none mend
+# of the second picture's extension 8 bits are left, its identifier and an f_code; the fifth picture follows an end code, and what
+# it refers to stands before that
+{ head -c 70 two.m2v; cat two.m2v; tail -c +57 two.m2v; cat two.m2v; } > torn.m2v
+cp torn.m2v in
+seam() { head -c 29 two.m2v; bytes 20; tail -c +31 two.m2v | head -c 50; }
+{ head -c 56 two.m2v; seam; seam; bytes $end; } > torn_mended.m2v
+printf '%s\n' 'frame 1 from 56 bytes 14 pictures 1 stream Truncated at bit 560' \
+  'frame 3 from 154 bytes 24 pictures 1 stream MissingReference at bit 1232' > torn_gaps
+printf '%300s' before > gaps
+holds 'mend with --list' 18 'groups 3 of 3 pictures 5 of 7 bytes 220' torn_mended.m2v mend --list gaps
+tell 'the list has a line for each gap, and nothing of before' "$(cmp torn_gaps gaps 2>&1)"
+cp two.m2v in
+holds 'mend with --list, where all is kept' 0 'groups 1 pictures 2 bytes 84' two.m2v mend --list gaps
+tell 'the list is empty' "$(cmp none gaps 2>&1)"
 cp two.m2v in
 # its pieces have 56, 24 and 4 bytes; 672 bits are the whole stream, and are there when the first picture is removed
 reports 'audit: nothing found' 0 'clean sequences 1 pictures 2 bytes 84 warnings 0' 'audit/1/main
@@ -238,6 +252,7 @@ holds 'a word of byte FF' 2 usage none flat 16 16 3 "$(printf '\377')"
 holds 'a command of byte FF' 2 usage none "$(printf '\377')"
 holds 'flat: quantiser 32' 3 'unfit rule 7 have 32 need 31' none flat 16 16 3 32
 holds 'encode: another plan' 2 usage none encode "${small[@]}" --plan odd
+holds 'mend: a list without a name' 2 usage none mend --list
 holds 'encode: group 10 by 3' 3 'unfit rule 6 have 1 need 0' none encode "${small[@]}" --group 10 --step 3
 holds 'decode: no workers' 3 'unfit rule 6 have 0 need 1' none decode --workers 0
 holds 'cut: no groups' 3 'unfit rule 9 have 0 need 1' none cut 0 0
@@ -273,6 +288,9 @@ holds 'check: a delay of 0' 11 'buffer under picture 0 have 489600 need 864000' 
 holds 'decode: a piece too large' 14 'picture too large' none decode
 holds 'check: a piece too large' 14 'picture too large' none check
 holds 'mend: a piece too large' 14 'picture too large' none mend
+{ head -c 70 two.m2v; head -c 80 two.m2v; cat in; } > torn_large.m2v
+ends 'mend with --list: a piece too large behind a fault' 14 'picture too large' mend --list gaps < torn_large.m2v > out
+tell 'the list holds a prefix then' "$(head -c "$(wc -c < gaps)" torn_gaps | cmp - gaps 2>&1)"
 cp two.m2v in
 holds 'cut: no second group' 16 'no group have 1 need 2' none cut 1 1
 bytes $coded $first 00 00 01 B8 00 08 00 40 $first $end > in
@@ -296,6 +314,12 @@ ends 'make: a full disc' 8 'write fault' make 1 < none > /dev/full
 ends 'encode: a directory for --recon' 8 'write fault' encode "${small[@]}" --recon . < frame > out
 tell 'nothing was written then' "$(cmp none out 2>&1)"
 ends 'encode: a full disc for --recon' 8 'write fault' encode "${small[@]}" --recon /dev/full < frame > out
+ends 'mend: a folder that is not there for --list' 8 'write fault' mend --list nowhere/gaps < two.m2v > out
+tell 'nothing was written then either' "$(cmp none out 2>&1)"
+ends 'mend: a full disc for --list' 8 'write fault' mend --list /dev/full < torn.m2v > out
+printf 'before' > gaps
+ends "mend with --list: an input that can't be read" 7 'read fault' mend --list gaps < / > out
+tell 'the list was opened before' "$(cmp none gaps 2>&1)"
 mkfifo pipe
 # the stream comes once nobody reads the pipe any more
 { sleep 0.5; cat flat.m2v; } | "$program" decode > pipe 2> err &

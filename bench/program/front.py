@@ -46,7 +46,7 @@ WORDS = [
     [], [b''], [b'', b''], [b'a b', b' c '], [b'two\nlines'], [b'\n'], [b'--'], [b'--', b'help'], [b'-h'], [b'-'], [b'*', b'?', b'[a]'],
     [b'~'], [b'$HOME', b'`id`', b'$(id)', b'\\', b'\\n', b"'", b'"'], [b'a\tb\rc'], [b'\xff\xfe'], [b'caf\xc3\xa9', b'\xc3'],
     [bytes(range(1, 256))], [bytes([byte]) for byte in range(1, 256)], [b'-c', b'x'], [b'-e'], [b'-n', b'x'], [b'x' * 100000],
-    [b'usage'], [b'encode', b'--width', b'720', b'--recon', b'a file'], [b'encode', b'--help'], [b'decode', b'--version'],
+    [b'usage'], [b'encode', b'--width', b'720', b'--recon', b'a file'], [b'mend', b'--list', b'a file'], [b'encode', b'--help'], [b'decode', b'--version'],
     [b'help', b'nothing'], [b'help', b''], [b'help', b'*'], [b'help', b'encode', b'x'], [b'help', b'enc'], [b'help', b'encode '], [b'help', b'../x'],
     [b'help', b'help'], [b'help', b'--help'], [b'help', b'Commands'], [b'help', b'\xff'], [b'--help', b'x'], [b'--version', b'x'], [b'--version', b''],
     [b'Help'], [b'help\n'], [b'help '], [b'--help='], [b'-help'], [b'-v'], [b'-V'], [b'version'],

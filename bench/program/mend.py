@@ -6,7 +6,9 @@
 PROGRAM is the built program. The clips have 50 frames: three of PROGRAM's own, one a scan, and one of ffmpeg and one of
 mpeg2enc where these are installed. Each is damaged COUNT times (20 where no number is given) by each kind of damage of
 bench/stress/damage.py, and mended. Of what is kept `decode` must find no fault and drop nothing, `mend` must leave it as it
-is, and ffmpeg and mpeg2dec, where they are installed, must show as many frames as `decode` without a word.
+is, and ffmpeg and mpeg2dec, where they are installed, must show as many frames as `decode` without a word. The list of what
+was left out must go with the line, and as many frames be shown before its last gap as it says: by those of the input's
+bytes before that, mended.
 
 A row a kind tells the frames that `decode` shows of the damaged clips, those that it shows of the mended ones, how many
 of these aren't in the whole clip in that order, and the groups that were kept, all as parts of what the clips have; and how
@@ -29,10 +31,11 @@ from damage import KINDS, damaged, raw
 
 WIDTH, HEIGHT, FRAMES = 176, 144, 50
 SIZE = WIDTH * HEIGHT * 3 // 2
+GAP = re.compile(r'frame (\d+) from (\d+) bytes (\d+) pictures (\d+) (leading|stream [A-Za-z0-9]+ at bit \d+)\n')
 
 
 def run(program, command, data):
-    done = subprocess.run([program, command], input=data, capture_output=True, check=False)
+    done = subprocess.run([program, *command.split()], input=data, capture_output=True, check=False)
     return done.returncode, done.stderr.decode().rstrip('\n'), done.stdout
 
 
@@ -88,14 +91,37 @@ def others(data, frames):
     return None
 
 
+def list_trouble(program, data, answer, left):
+    """What is wrong with the list of what was left out, so many pictures where that is known, where something is."""
+    with tempfile.NamedTemporaryFile('w+') as gaps:
+        if run(program, 'mend --list ' + gaps.name, data) != answer:
+            return 'mend answers another thing with a list'
+        lines = gaps.readlines()
+    rows = [GAP.fullmatch(line) for line in lines]
+    if not all(rows):
+        return 'the list has %s' % lines
+    numbers = [tuple(map(int, row.groups()[:4])) for row in rows]
+    follow = all(a[0] <= b[0] and a[1] + a[2] <= b[1] for a, b in zip(numbers, numbers[1:]))
+    if not follow or left is not None and left != sum(row[3] for row in numbers):
+        return 'the list has %s' % lines
+    if rows:
+        frames, place = numbers[-1][:2]
+        # leading pictures stand after the frame that is shown after them
+        frames += rows[-1][5] == 'leading'
+        shown = run(program, 'decode', run(program, 'mend', data[:place])[2])[2]
+        if len(shown) != frames * SIZE:
+            return 'of the bytes before %s %d frames are shown' % (lines[-1], len(shown) // SIZE)
+    return None
+
+
 def looked_at(program, whole, data, counts):
     """What is wrong with what is made of a damaged clip, where something is; it is counted."""
     status, _, shown = run(program, 'decode', data)
     counts['decoded'] += len(shown) // SIZE
     counts['no fault'] += status == 0
-    status, line, made = run(program, 'mend', data)
+    status, line, made = answer = run(program, 'mend', data)
     if status == 19:
-        return None if made == b'' else 'mend answered %s, and wrote' % line
+        return list_trouble(program, data, answer, None) if made == b'' else 'mend answered %s, and wrote' % line
     numbers = list(map(int, re.findall(r'\d+', line)))
     decoded, told, shown = run(program, 'decode', made)
     frames = split(shown)
@@ -103,6 +129,9 @@ def looked_at(program, whole, data, counts):
         return 'mend answered %s; decode: %s' % (line, told)
     if run(program, 'mend', made)[::2] != (0, made):
         return 'mend answered %s; mended again it differs' % line
+    wrong = list_trouble(program, data, answer, numbers[3] - numbers[2] if status == 18 else 0)
+    if wrong:
+        return wrong
     counts['kept'] += len(frames)
     counts['strange'] += strange(whole, frames)
     counts['groups'] += numbers[0]

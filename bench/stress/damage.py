@@ -10,9 +10,10 @@ or exchanged, start codes put in, units exchanged, the end cut off. Of each, the
 and 256 MB with one of their statuses and its line, and `decode` with whole frames; by four workers, which may take 1
 GB of addresses, it must give the same. A fault must be the one that bench/cases/faults.py finds, and the report of
 `audit`, with each picture told and without, the one that bench/cases/audited.py makes, whose records of the first
-sequence must go with what `check` says. What `mend` answers and writes must be what bench/cases/mended.py makes of the
-stream, and `decode` must find no fault in it. Then streams of a megabyte that are dear to read are timed beside an
-ordinary one, and their reports looked at: many tiny slices, many headers, many sequences, the longest escapes.
+sequence must go with what `check` says. What `mend` answers and writes, with a list and without, and what stands in the
+list, must be what bench/cases/mended.py makes of the stream, and `decode` must find no fault in it. Then streams of a
+megabyte that are dear to read are timed beside an ordinary one, and their reports looked at: many tiny slices, many
+headers, many sequences, many gaps, the longest escapes.
 
 It ends with status 1 where a stream was not so answered; that stream is left in /tmp/damaged."""
 
@@ -33,7 +34,7 @@ sys.path.insert(0, str(CASES))
 
 from audited import report
 from faults import first_fault
-from mended import mend
+from mended import lines_of, mend
 from pictures_writer import ESCAPED_INCREMENT, FRAME, I, INCREMENT, Picture, headers, sequence
 
 KIND = (r'(NoSequence|NotMpeg2|Unsupported|Truncated|NoCode|BadMarker|Forbidden|SequenceChanged|SliceOrder|'
@@ -52,7 +53,7 @@ LINES = {
              18: r'groups \d+ of \d+ pictures \d+ of \d+ bytes \d+', 19: r'nothing kept stream %s at bit \d+' % KIND},
 }
 SECONDS, MEMORY, MEMORY_BY_FOUR = 10, 256 << 20, 1 << 30
-BY_FOUR, EACH = 'decode --workers 4', 'audit --pictures'
+BY_FOUR, EACH, LISTED = 'decode --workers 4', 'audit --pictures', 'mend --list'
 END = b'\0\0\1\xb7'
 
 
@@ -70,6 +71,13 @@ def run(program, command, data, seconds=SECONDS, memory=MEMORY):
         took = time.monotonic() - start
         out.seek(0)
         return done.returncode, done.stderr.decode('ascii', 'replace').rstrip('\n'), out.read(), took
+
+
+def run_listed(program, data):
+    """The status, the line, the bytes that were written, and the list of what was left out."""
+    with tempfile.NamedTemporaryFile() as gaps:
+        answer = run(program, '%s %s' % (LISTED, gaps.name), data)[:3]
+        return *answer, gaps.read()
 
 
 def trouble(program, data):
@@ -93,18 +101,23 @@ def trouble(program, data):
     try:
         by_four = run(program, BY_FOUR, data, memory=MEMORY_BY_FOUR)[:3]
         told = run(program, EACH, data)[:3]
+        listed = run_listed(program, data)
     except subprocess.TimeoutExpired:
-        return '%s, or %s, did not end within %d seconds' % (BY_FOUR, EACH, SECONDS), answers
+        return '%s, %s, or %s did not end within %d seconds' % (BY_FOUR, EACH, LISTED, SECONDS), answers
     if by_four != said['decode']:
         return '%s answered %d: %s, and %d bytes' % (BY_FOUR, *by_four[:2], len(by_four[2])), answers
-    return (audit_trouble(data, said['check'], said['audit'], told) or mend_trouble(program, data, said['mend'])), answers
+    wrong = audit_trouble(data, said['check'], said['audit'], told) or mend_trouble(program, data, said['mend'], listed)
+    return wrong, answers
 
 
-def mend_trouble(program, data, answer):
-    """What is wrong with the mended stream, where something is."""
-    made, status, line, _ = mend(data)
-    if answer != (status, line, made or b''):
-        return 'mend answered %d: %s, and %d bytes, not %d: %s' % (*answer[:2], len(answer[2]), status, line)
+def mend_trouble(program, data, answer, listed):
+    """What is wrong with the mended stream, or with the list of what was left out, where something is."""
+    made, status, line, gaps = mend(data)
+    for command, found in (('mend', answer), (LISTED, listed[:3])):
+        if found != (status, line, made or b''):
+            return '%s answered %d: %s, and %d bytes, not %d: %s' % (command, *found[:2], len(found[2]), status, line)
+    if listed[3] != ''.join(lines_of(gaps)).encode():
+        return 'the list is %s, not %s' % (listed[3], ''.join(lines_of(gaps)))
     if made:
         decoded = run(program, 'decode', made)[:2]
         if decoded[0]:
@@ -241,6 +254,8 @@ def dear():
         'user data without end, 16 by 16': of_a_megabyte(small + intra(0), b'\0\0\1\xb2')[:-4] + plain + END,
         'group headers without pictures, 16 by 16': of_a_megabyte(small, b'\0\0\1\xb8\0\x08\0\0'),
         'sequences without pictures, 16 by 16': of_a_megabyte(b'', small + END),
+        'sequences of which every second one is a gap, 16 by 16': of_a_megabyte(
+            b'', small + intra(0) + plain + END + small + intra(0) + END),
     }
 
 
@@ -278,10 +293,10 @@ def main():
     base = {c: run(program, c, data, 120)[3] / len(data) * (1 << 20) for c in LINES}
     print('ordinary, %d bytes: ' % len(data) + ', '.join('%s %.2f s a megabyte' % it for it in base.items()))
     for name, data in dear().items():
-        for command in LINES:
+        for command in (*LINES, LISTED + ' /dev/null'):
             status, line, output, took = run(program, command, data, 120)
             print('%s, %d bytes: %s %d (%s), %.2f s, %.1f times' % (name, len(data), command, status, line, took,
-                                                                    took / base[command]))
+                                                                    took / base[command.split()[0]]))
             if command == 'audit' and (status, line, output) != report(data):
                 Path('/tmp/damaged').write_bytes(data)
                 sys.exit('%s: another report is wanted; the stream is /tmp/damaged' % name)

@@ -5,7 +5,7 @@
 
 PROGRAM is the built program. A library in front of the system's (made here with cc, in a temporary folder) refuses call
 N of malloc, calloc and realloc, for N from 1 on until a run is no longer touched. With status 12 output and the file of
---recon hold prefixes of what success gives, and report the line; with another status all is as it would have been.
+--recon or --list hold prefixes of what they hold else, and report the line; with another status all is as it would have been.
 The numbers of calls refused and of those answered by 12 are printed, a line a command."""
 
 import os
@@ -57,19 +57,21 @@ def frames(width, height, count):
 
 
 def run(program, words, data, shim, number, folder):
-    """The status, the line, output, what the file of --recon holds, and whether a call was refused."""
-    recon, touched = Path(folder) / 'recon', Path(folder) / 'touched'
-    for path in (recon, touched):
+    """The status, the line, output, what the file that is named holds, and whether a call was refused."""
+    named, touched = Path(folder) / 'named', Path(folder) / 'touched'
+    for path in (named, touched):
         path.unlink(missing_ok=True)
     env = {**os.environ, 'LD_PRELOAD': shim, 'REFUSE': str(number), 'REFUSED': str(touched)}
     done = subprocess.run([program, *words], input=data, capture_output=True, env=env, cwd=folder)
-    held = recon.read_bytes() if recon.exists() else b''
+    held = named.read_bytes() if named.exists() else b''
     return done.returncode, done.stderr, done.stdout, held, touched.exists()
 
 
 def tried(program, name, words, data, shim, folder):
     status, line, output, held, _ = run(program, words, data, shim, 0, folder)
-    assert status == 0, (name, status, line)
+    # pictures are left out where there is a list
+    assert status == (18 if '--list' in words else 0), (name, status, line)
+    assert bool(held) == ('named' in words), name
     refused = told = 0
     for number in range(1, 1000000):
         got = run(program, words, data, shim, number, folder)
@@ -94,15 +96,18 @@ def main():
         small = '--width 32 --height 32 --rate 3 --bits 200 --buffer 2 --search 2'.split()
         clip = frames(32, 32, 5)
         plain = subprocess.run([program, 'encode', *small], input=clip, capture_output=True, check=True).stdout
+        # a last picture that is broken off, one after an end code, and one that is broken off at the end
+        torn = plain[:-40] + plain + plain[plain.rindex(b'\0\0\1\0'):] + plain[:-40]
         for name, words, data in (
                 ('flat', ['flat', '32', '32', '3', '4'], clip),
-                ('encode', ['encode', *small, '--group', '2', '--step', '1', '--recon', 'recon', '--workers', '2'], clip),
+                ('encode', ['encode', *small, '--group', '2', '--step', '1', '--recon', 'named', '--workers', '2'], clip),
                 ('decode', ['decode'], plain),
                 ('decode by two workers', ['decode', '--workers', '2'], plain),
                 ('check', ['check'], plain),
                 ('audit', ['audit'], plain + plain),
                 ('audit with each picture', ['audit', '--pictures'], plain + plain),
                 ('mend', ['mend'], plain + plain),
+                ('mend with a list', ['mend', '--list', 'named'], torn),
                 ('make', ['make', '1'], b''),
         ):
             tried(program, name, words, data, shim, folder)
