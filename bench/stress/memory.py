@@ -5,7 +5,7 @@
 
 PROGRAM is the built program. A library in front of the system's (made here with cc, in a temporary folder) refuses call
 N of malloc, calloc and realloc, for N from 1 on until a run is no longer touched. With status 12 output and the file of
---recon or --list hold prefixes of what they hold else, and report the line; with another status all is as it would have been.
+--recon or --list hold prefixes of what they would hold, and report the line; with another status all is as it would have been.
 The numbers of calls refused and of those answered by 12 are printed, a line a command."""
 
 import os
