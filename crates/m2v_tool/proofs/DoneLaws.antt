@@ -1,7 +1,8 @@
 -- What status 0 says: the command was done, and the whole line of that is on report.
-use Rattle.std.proofs.Common.{◌≡◌, inl, inr, ℕ, Bool, true, false, suc, refl, sym, ◌∙◌, arith, subst}
+use Rattle.std.proofs.Common.{◌≡◌, inl, inr, ℕ, Bool, true, false, suc, Option, refl, sym, ◌∙◌, arith, subst}
 use Rattle.std.specs.Prelude.{◌==◌, ◌&&◌, nat_eq, if◌then◌else◌}
 use Rattle.std.proofs.lemmas.Bool.{cases_Bool, cond-true, cond-false, eq-eqb, eqb-true}
+use Rattle.clap.specs.Walk.{Text}
 use Rattle.m2v_port.specs.Port.{Grows}
 use Rattle.m2v_port.specs.declared.error.PortError.{PortError}
 use Rattle.m2v_port.specs.declared.error.PortError.TheVariants as calls
@@ -32,12 +33,11 @@ use Rattle.m2v_audit.specs.declared.outcome.Ending.TheVariants as audits
 use Rattle.m2v_audit.specs.declared.words.LimitKind.TheVariants as limits
 use Rattle.m2v_audit.specs.declared.records.TotalRecord.{TotalRecord}
 use Rattle.m2v_audit.specs.declared.asked.Asked.{Asked}
-use Rattle.m2v_cut.specs.m2v_decode.Answers.{OfText}
 use Rattle.m2v_mend.specs.declared.answer.Answer.{Answer}
 use Rattle.m2v_mend.specs.declared.answer.Answer.TheVariants as answers
 use Rattle.m2v_mend.specs.declared.answer.MendError.{MendError}
 use Rattle.m2v_mend.specs.declared.answer.MendError.TheVariants as mend_errors
-use Rattle.m2v_mend.specs.Answers.{answer_told, IsMended}
+use Rattle.m2v_mend.specs.Answers.{answer_told}
 use Rattle.m2v_mend.specs.m2v_law_seam.Told.{status_of}
 use Rattle.m2v_tool.specs.declared.mend.MendOutcome.{MendOutcome}
 use Rattle.m2v_tool.specs.declared.mend.MendOutcome.TheVariants as mends
@@ -64,14 +64,14 @@ use Rattle.m2v_tool.specs.declared.unpack.UnpackOutcome.TheVariants as unpacks
 use Rattle.m2v_tool.specs.declared.encode_y4m.Y4mOutcome.{Y4mOutcome}
 use Rattle.m2v_tool.specs.declared.encode_y4m.Y4mOutcome.TheVariants as texts
 use Rattle.m2v_model.specs.Pieces.{too_long, too_large}
-use Rattle.m2v_tool.specs.Endings.{Ending, Success, line_of, Told, whole, cut, unfit_ending, ending_past, stream_fault}
+use Rattle.m2v_tool.specs.Endings.{Ending, Success, line_of, Told, whole, cut, unfit_ending, unopened_ending, ending_past, stream_fault}
 use Rattle.m2v_tool.specs.EncodeWords.{Meant}
 use Rattle.m2v_tool.specs.Coding.{FlatDone, FlatComes, coding_stopped, flat_ending, flat_coded_ending}
-use Rattle.m2v_tool.specs.Encoding.{EncodeDone, EncodeComes, encoding_stopped, unopened_ending, encoded_ending, encode_ending}
+use Rattle.m2v_tool.specs.Encoding.{EncodeDone, EncodeComes, encoding_stopped, encoded_ending, encode_ending}
 use Rattle.m2v_tool.specs.Decoding.{DecodeDone, DecodeComes, decoding_stopped, shown_ending, decode_ending}
 use Rattle.m2v_tool.specs.Checking.{CheckComes, HasPassed, lawful_ending, variable_ending, account_ending, verdict_ending, check_ending}
 use Rattle.m2v_tool.specs.Auditing.{AuditDone, AuditComes, clean_ending, found_ending, whole_ending, limit_ending, audited_ending, audit_ending}
-use Rattle.m2v_tool.specs.Mending.{MendComes, MendDone, told_ending, mended_ending, mending_stopped, mend_ending}
+use Rattle.m2v_tool.specs.Mending.{MendRead, MendComes, MendDone, told_ending, mended_ending, mending_stopped, mend_ending}
 use Rattle.m2v_tool.specs.Making.{MakeComes, made_ending, making_stopped, make_ending}
 use Rattle.m2v_tool.specs.Cutting.{CutDone, CutComes, none_asked, cutting_stopped, cut_out_ending, cut_ending}
 use Rattle.m2v_tool.specs.Packing.{PackDone, PackComes, UnpackComes, y4m_fault, packed_ending, packing_stopped, unpacking_stopped, pack_ending, unpack_ending}
@@ -304,18 +304,20 @@ mend_stops mend_errors.TooLong = (12, refl)
 mend_stops mend_errors.PictureTooLarge = (13, refl)
 mend_stops mend_errors.Memory = (11, refl)
 
-mended_by : (r : Run) (a : Answer) → OfText r.input (λ text. IsMended text r.output a) → Told (mended_ending a) r.status r.report → r.status ≡ 0 → Success (MendDone r.input r.output) mended_ending r.report
+mended_by : (r : Run) (name : Option Text) (a : Answer) → MendRead name (work_of r) a → Told (mended_ending a) r.status r.report → r.status ≡ 0 → Success (MendDone name (work_of r)) mended_ending r.report
 unfolding told_ending
-mended_by r (answers.AllKept groups pictures bytes) c t none =
+mended_by r name (answers.AllKept groups pictures bytes) c t none =
     let a = answers.AllKept groups pictures bytes in
-    record { outcome = a; is = record { mended = c; all = refl }; line = line (mended_ending a) r t none }
-mended_by r (answers.SomeKept groups of_groups pictures of_pictures bytes) c t none = refused (mended_ending (answers.SomeKept groups of_groups pictures of_pictures bytes)) r t (17, refl) none
-mended_by r (answers.NoneKept fault) c t none = refused (mended_ending (answers.NoneKept fault)) r t (18, refl) none
+    record { outcome = a; is = record { read = c; all = refl }; line = line (mended_ending a) r t none }
+mended_by r name (answers.SomeKept groups of_groups pictures of_pictures bytes) c t none = refused (mended_ending (answers.SomeKept groups of_groups pictures of_pictures bytes)) r t (17, refl) none
+mended_by r name (answers.NoneKept fault) c t none = refused (mended_ending (answers.NoneKept fault)) r t (18, refl) none
 
-pub mend_done : (r : Run) (o : MendOutcome) → MendComes r.input r.output o → Told (mend_ending o) r.status r.report → r.status ≡ 0 → Success (MendDone r.input r.output) mended_ending r.report
+pub mend_done : (r : Run) (name : Option Text) (o : MendOutcome) → MendComes name (work_of r) o → Told (mend_ending o) r.status r.report → r.status ≡ 0
+    → Success (MendDone name (work_of r)) mended_ending r.report
 unfolding MendComes mend_ending
-mend_done r (mends.Mended a) c t none = mended_by r a c t none
-mend_done r (mends.Stopped e) c t none = refused (mending_stopped e) r t (mend_stops e) none
+mend_done r name (mends.Mended a) c t none = mended_by r name a c t none
+mend_done r name (mends.Unopened e) c t none = refused (unopened_ending e) r t (shut_stops e) none
+mend_done r name (mends.Stopped e) c t none = refused (mending_stopped e) r t (mend_stops e) none
 
 -- no picture was left out
 pub all_told : (r : Run) (a : Answer) → status_of (answer_told a) ≡ 0 → NoneFailed r → Told (mended_ending a) r.status r.report → Succeeds r

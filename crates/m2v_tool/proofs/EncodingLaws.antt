@@ -1,9 +1,7 @@
 -- What follows from what `encode` did and what was told of it.
 use Rattle.std.proofs.Common.{◌≡◌, inl, inr, ℕ, ◌*◌, ◌<◌, ◌≤◌, ◌++◌, List, [], ◌∷◌, length, Option, Some, None, refl, sym, ap, subst, ◌∙◌, arith, length-append}
 use Rattle.std.proofs.Math.Nat.{mul-pos}
-use Rattle.std.specs.Prelude.{IsFalse}
 use Rattle.m2v_port.specs.Ends.{Change, change}
-use Rattle.m2v_port.specs.Port.{Grows, GrowsByPrefix}
 use Rattle.m2v_port.specs.declared.error.PortError.{PortError}
 use Rattle.m2v_port.specs.declared.error.PortError.TheVariants as calls
 use Rattle.m2v_port.proofs.Runs.{tells, rose_since}
@@ -19,15 +17,16 @@ use Rattle.m2v_make.specs.m2v_encode.declared.answer.Summary.{Summary}
 use Rattle.m2v_make.specs.m2v_encode.declared.answer.EncodeError.{EncodeError}
 use Rattle.m2v_make.specs.m2v_encode.declared.answer.EncodeError.TheVariants as errors
 use Rattle.m2v_make.specs.m2v_encode.Answers.{AllCoded, Stops, Unended, CutOff, EndedShort, WasEmpty, WentOn, most_frames}
-use Rattle.m2v_make.specs.m2v_enc_stream.Streams.{Recon, ReconBegun}
 use Rattle.m2v_tool.specs.declared.encode.EncodeOutcome.{EncodeOutcome}
 use Rattle.m2v_tool.specs.declared.encode.EncodeOutcome.TheVariants.{Coded, Unfit as NotFit, Unopened, Stopped}
-use Rattle.m2v_tool.specs.Endings.{Told, whole, cut, unfit_ending}
+use Rattle.m2v_tool.specs.Endings.{Told, whole, cut, unfit_ending, unopened_ending}
 use Rattle.m2v_tool.specs.EncodeWords.{Meant}
 use Rattle.m2v_tool.specs.Inputs.{AreFrames, EndInside}
-use Rattle.m2v_tool.specs.Encoding.{opened, recon_by, Shut, frame_size, EncodeStopped, EncodeShut, EncodeComes, encoding_stopped, unopened_ending, encoded_ending, encode_ending, EncodeAnswer, EncodeKeeps}
-use Rattle.m2v_tool.specs.Runs.{Run, Work, work_of, IsUntouched, Yields, RefusedBy, NoneFailed, Succeeds}
+use Rattle.m2v_tool.specs.Places.{opened, recon_by}
+use Rattle.m2v_tool.specs.Encoding.{frame_size, EncodeStopped, EncodeShut, EncodeComes, encoding_stopped, encoded_ending, encode_ending, EncodeAnswer, EncodeKeeps}
+use Rattle.m2v_tool.specs.Runs.{Run, work_of, IsUntouched, Yields, RefusedBy, NoneFailed, Succeeds}
 use Rattle.m2v_tool.proofs.EndingLaws.{refusal, or_memory}
+use Rattle.m2v_tool.proofs.PlaceLaws.{grown_from, prefix_from, failed_of}
 use Rattle.m2v_tool.proofs.DoneLaws.{encode_done, no_success}
 use Rattle.m2v_tool.proofs.CodingLaws.{frames_length, all_read, long_by, not_inside, not_empty, not_many}
 
@@ -96,11 +95,7 @@ module _ (r : Run) (m : Meant) where
 
   -- the count of recon rose
   recon_rose : (bytes : ℕ) → Passes m.settings → r.status ≡ 8 → (recon_by m.recon r.recon).Failed → Yields r (EncodeAnswer r m bytes)
-  recon_rose bytes passes is failed = by_name m.recon failed
-    where
-      by_name : (o : Option (List ℕ)) → (recon_by o r.recon).Failed → Yields r (EncodeAnswer r m bytes)
-      by_name (Some name) f = Yields.said (EncodeAnswer.recon passes f is)
-      by_name None f = absurd f
+  recon_rose bytes passes is failed = Yields.said (EncodeAnswer.recon passes (failed_of m.recon r.recon failed) is)
 
   stopped_at : (bytes : List ℕ) → r.input.old ≡ Some bytes → (e : EncodeError) → EncodeStopped m (work_of r) e → Told (encoding_stopped e) r.status r.report
       → Yields r (EncodeAnswer r m (length bytes))
@@ -176,20 +171,9 @@ module _ (r : Run) (m : Meant) where
         (λ bytes told passes frames well sound. inr is);
   }
 
--- a place that wasn't opened
-pub shut_of : (e : PortError) (k : Work) → (e ≡ calls.Failed → k.recon.Failed) → IsFalse k.place.ready → k.recon.new ≡ k.recon.old → k.input.Unchanged → k.output.Unchanged → Shut e k
-shut_of calls.Failed k rose shut same input output = (rose refl, shut, same, input, output)
-shut_of calls.Memory k rose shut same input output = (shut, same, input, output)
-
 -- ---- what was done to a place since it was opened counts as done to it since before
 
 module _ {N : Type 0} (held : N → Option (List ℕ)) (faults : N → ℕ) (n0 n1 n2 : N) (same : held n1 ≡ held n0) (le : faults n0 ≤ faults n1) where
-  grown_from : (bytes : List ℕ) → Grows (held n1) bytes (held n2) → Grows (held n0) bytes (held n2)
-  grown_from bytes g = subst (λ (o : Option (List ℕ)). Grows o bytes (held n2)) same g
-
-  prefix_from : (bytes : List ℕ) → GrowsByPrefix (held n1) bytes (held n2) → GrowsByPrefix (held n0) bytes (held n2)
-  prefix_from bytes g = subst (λ (o : Option (List ℕ)). GrowsByPrefix o bytes (held n2)) same g
-
   same_from : (A B : Type 0) → (A → B × (n2 ≡ n1)) → A → B × (held n2 ≡ held n0)
   same_from A B f a = let u = f a in (u.0, ap held u.1 ∙ same)
 
@@ -203,7 +187,7 @@ module _ {N : Type 0} (held : N → Option (List ℕ)) (faults : N → ℕ) (n0 
     moved = c.moved;
     end = c.end;
     grown = c.grown;
-    shown = grown_from (raw (Recon s c.frames)) c.shown;
+    shown = grown_from same c.shown;
     numbers = c.numbers;
     headline = c.headline;
   }
@@ -215,7 +199,7 @@ module _ {N : Type 0} (held : N → Option (List ℕ)) (faults : N → ℕ) (n0 
     whole = u.whole;
     moved = u.moved;
     grown = u.grown;
-    shown = grown_from (raw (ReconBegun s frames)) u.shown;
+    shown = grown_from same u.shown;
     unwritten = same_from (length frames ≡ 0) output.Unchanged u.unwritten;
   }
 
@@ -228,7 +212,7 @@ module _ {N : Type 0} (held : N → Option (List ℕ)) (faults : N → ℕ) (n0 
     less = u.less;
     moved = u.moved;
     grown = u.grown;
-    shown = prefix_from (raw (Recon s u.frames)) u.shown;
+    shown = prefix_from same u.shown;
     unwritten = same_from (length u.frames ≡ 0) output.Unchanged u.unwritten;
   }
 

@@ -2,6 +2,7 @@ pub mod LineLaws
 pub mod NumberLaws
 pub mod WordLaws
 pub mod EndingLaws
+pub mod PlaceLaws
 pub mod DoneLaws
 pub mod CodingLaws
 pub mod CuttingLaws

@@ -1,11 +1,13 @@
 -- What follows from the outcome that came and what was told of it.
-use Rattle.std.proofs.Common.{◌≡◌, inr, refl, subst}
+use Rattle.std.proofs.Common.{◌≡◌, inr, Option, refl, subst}
+use Rattle.clap.specs.Walk.{Text}
 use Rattle.m2v_tool.specs.declared.command.Command.{Command}
 use Rattle.m2v_tool.specs.declared.command.Command.TheVariants as commands
 use Rattle.m2v_tool.specs.declared.command.Outcome.{Outcome}
 use Rattle.m2v_tool.specs.declared.command.Outcome.TheVariants.{Usage, NoMemory, Flat, Encode, Decode, Check, Audit, Mend, Make, Cut, Pack, Unpack, EncodeY4m}
 use Rattle.m2v_tool.specs.EncodeWords.{Meant, words_of}
 use Rattle.m2v_tool.specs.Encoding.{EncodeKeeps}
+use Rattle.m2v_tool.specs.Mending.{list_named, MendKeeps}
 use Rattle.m2v_tool.specs.Y4mCoding.{Y4mKeeps}
 use Rattle.m2v_tool.specs.Endings.{Told}
 use Rattle.m2v_tool.specs.Words.{Means, NoCommand}
@@ -34,7 +36,7 @@ module _ (r : Run) where
   refused_by (Decode o) c t none = absurd (none (commands.Decode c.0) c.1)
   refused_by (Check o) c t none = absurd (none commands.Check c.0)
   refused_by (Audit o) c t none = absurd (none (commands.Audit c.0) c.1)
-  refused_by (Mend o) c t none = absurd (none commands.Mend c.0)
+  refused_by (Mend o) c t none = absurd (none (commands.Mend c.0) c.1)
   refused_by (Make o) c t none = absurd (none (commands.Make c.0) c.1)
   refused_by (Cut o) c t none = absurd (none (commands.Cut c.0) c.1)
   refused_by (Pack o) c t none = absurd (none (commands.Pack c.0) c.1)
@@ -48,7 +50,7 @@ module _ (r : Run) where
   unread_by untouched is (commands.Decode workers) = decode_unread r workers untouched is
   unread_by untouched is commands.Check = check_unread r is
   unread_by untouched is (commands.Audit w) = audit_unread r w untouched is
-  unread_by untouched is commands.Mend = mend_unread r is
+  unread_by untouched is (commands.Mend w) = mend_unread r (list_named w) is
   unread_by untouched is (commands.Make seed) = make_unread r seed is
   unread_by untouched is (commands.Cut w) = cut_unread r w untouched is
   unread_by untouched is (commands.Pack h) = pack_unread r h untouched is
@@ -59,7 +61,7 @@ module _ (r : Run) where
   same_keeps : (c d : Command) → Means r.words c → Means r.words d → Keeps c r → Keeps d r
   same_keeps c d means others keeps =
       one_meaning (λ (x : Command). Keeps x r) (λ v w same k. subst (λ (m : Meant). EncodeKeeps m r) same k)
-      (λ v w same k. subst (λ (m : Meant). Y4mKeeps m r) same k) r.words c d means others keeps
+      (λ v w same k. subst (λ (name : Option Text). MendKeeps name r) same k) (λ v w same k. subst (λ (m : Meant). Y4mKeeps m r) same k) r.words c d means others keeps
 
   keeps_by : (o : Outcome) → Comes r.words (work_of r) o → Told (ending_of o) r.status r.report → (d : Command) → Means r.words d → Keeps d r
   unfolding Comes ending_of
@@ -70,7 +72,7 @@ module _ (r : Run) where
   keeps_by (Decode o) c t d means = same_keeps (commands.Decode c.0) d c.1 means (decode_keeps r c.0 o c.2 t c.3)
   keeps_by (Check o) c t d means = same_keeps commands.Check d c.0 means (check_keeps r o c.1 t)
   keeps_by (Audit o) c t d means = same_keeps (commands.Audit c.0) d c.1 means (audit_keeps r c.0 o c.2 t)
-  keeps_by (Mend o) c t d means = same_keeps commands.Mend d c.0 means (mend_keeps r o c.1 t)
+  keeps_by (Mend o) c t d means = same_keeps (commands.Mend c.0) d c.1 means (mend_keeps r (list_named c.0) o c.2 t)
   keeps_by (Make o) c t d means = same_keeps (commands.Make c.0) d c.1 means (make_keeps r c.0 o c.2 t)
   keeps_by (Cut o) c t d means = same_keeps (commands.Cut c.0) d c.1 means (cut_keeps r c.0 o c.2 t c.3)
   keeps_by (Pack o) c t d means = same_keeps (commands.Pack c.0) d c.1 means (pack_keeps r c.0 o c.2 t c.3)

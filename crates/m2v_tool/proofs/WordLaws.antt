@@ -7,12 +7,14 @@ use Rattle.m2v_y4m.specs.declared.header.Y4mHeader.{Y4mHeader}
 use Rattle.m2v_tool.specs.declared.flat.FlatWords.{FlatWords}
 use Rattle.m2v_tool.specs.declared.encode.EncodeWords.{EncodeWords}
 use Rattle.m2v_audit.specs.declared.asked.Asked.{Asked}
+use Rattle.m2v_tool.specs.declared.mend.MendWords.{MendWords}
 use Rattle.m2v_tool.specs.declared.cut.CutWords.{CutWords}
 use Rattle.m2v_tool.specs.declared.command.Command.{Command}
 use Rattle.m2v_tool.specs.declared.command.Command.TheVariants.{Flat, Encode, Decode, Check, Audit, Mend, Make, Cut, Pack, Unpack, EncodeY4m}
 use Rattle.m2v_tool.specs.EncodeWords.{encode_meant, words_of}
 use Rattle.m2v_tool.specs.Decoding.{decode_meant}
 use Rattle.m2v_tool.specs.Auditing.{audit_meant}
+use Rattle.m2v_tool.specs.Mending.{list_named, mend_meant}
 use Rattle.m2v_tool.specs.Making.{make_meant}
 use Rattle.m2v_tool.specs.Cutting.{cut_meant}
 use Rattle.m2v_tool.specs.Packing.{pack_meant}
@@ -40,7 +42,7 @@ kind_of (Encode w) = encodes
 kind_of (Decode workers) = decodes
 kind_of Check = checks
 kind_of (Audit w) = audits
-kind_of Mend = mends
+kind_of (Mend w) = mends
 kind_of (Make seed) = makes
 kind_of (Cut w) = cuts
 kind_of (Pack h) = packs
@@ -68,7 +70,7 @@ by_name name others (Encode w) m = ap kind_named m.0
 by_name name others (Decode workers) m = ap kind_named m.0
 by_name name others Check m = ap kind_named m.0
 by_name name others (Audit w) m = ap kind_named m.0
-by_name name others Mend m = ap kind_named m.0
+by_name name others (Mend w) m = ap kind_named m.0
 by_name name others (Make seed) m = ap kind_named m.0
 by_name name others (Cut w) m = ap kind_named m.0
 by_name name others (Pack h) m = ap kind_named m.0
@@ -82,7 +84,7 @@ Payload encodes = EncodeWords
 Payload decodes = ℕ
 Payload checks = Unit {0}
 Payload audits = Asked
-Payload mends = Unit {0}
+Payload mends = MendWords
 Payload makes = ℕ
 Payload cuts = CutWords
 Payload packs = Y4mHeader
@@ -95,7 +97,7 @@ payload (Encode w) = w
 payload (Decode workers) = workers
 payload Check = tt
 payload (Audit w) = w
-payload Mend = tt
+payload (Mend w) = w
 payload (Make seed) = seed
 payload (Cut w) = w
 payload (Pack h) = h
@@ -109,7 +111,7 @@ command_of encodes w = Encode w
 command_of decodes workers = Decode workers
 command_of checks u = Check
 command_of audits w = Audit w
-command_of mends u = Mend
+command_of mends w = Mend w
 command_of makes seed = Make seed
 command_of cuts w = Cut w
 command_of packs h = Pack h
@@ -122,7 +124,7 @@ again (Encode w) = refl
 again (Decode workers) = refl
 again Check = refl
 again (Audit w) = refl
-again Mend = refl
+again (Mend w) = refl
 again (Make seed) = refl
 again (Cut w) = refl
 again (Pack h) = refl
@@ -136,7 +138,7 @@ Says encodes others w = encode_meant others ≡ Some (words_of w)
 Says decodes others workers = decode_meant others ≡ Some workers
 Says checks others u = Unit {0}
 Says audits others w = audit_meant others ≡ Some w
-Says mends others u = Unit {0}
+Says mends others w = mend_meant others ≡ Some (list_named w)
 Says makes others seed = make_meant others ≡ Some seed
 Says cuts others w = cut_meant others ≡ Some w
 Says packs others h = pack_meant others ≡ Some h
@@ -149,7 +151,7 @@ said name others (Encode w) m = m.1
 said name others (Decode workers) m = m.1
 said name others Check m = tt
 said name others (Audit w) m = m.1
-said name others Mend m = tt
+said name others (Mend w) m = m.1
 said name others (Make seed) m = m.1
 said name others (Cut w) m = m.1
 said name others (Pack h) m = m.1
@@ -165,6 +167,7 @@ one_some o x y f g =
 
 -- What holds of a command that words mean holds of each one that they mean, where it speaks of what the words say alone.
 module _ (P : Command → Type 0) (alike : (v w : EncodeWords) → words_of v ≡ words_of w → P (Encode v) → P (Encode w))
+    (alike_list : (v w : MendWords) → list_named v ≡ list_named w → P (Mend v) → P (Mend w))
     (alike_text : (v w : EncodeWords) → words_of v ≡ words_of w → P (EncodeY4m v) → P (EncodeY4m w)) where
   one_payload : (k : Kind) (others : List Text) (x y : Payload k) → Says k others x → Says k others y → P (command_of k x) → P (command_of k y)
   one_payload flats others x y f g p = subst (λ (w : FlatWords). P (Flat w)) (one_some _ x y f g) p
@@ -172,7 +175,7 @@ module _ (P : Command → Type 0) (alike : (v w : EncodeWords) → words_of v �
   one_payload decodes others x y f g p = subst (λ (n : ℕ). P (Decode n)) (one_some _ x y f g) p
   one_payload checks others x y f g p = p
   one_payload audits others x y f g p = subst (λ (w : Asked). P (Audit w)) (one_some _ x y f g) p
-  one_payload mends others x y f g p = p
+  one_payload mends others x y f g p = alike_list x y (one_some _ (list_named x) (list_named y) f g) p
   one_payload makes others x y f g p = subst (λ (n : ℕ). P (Make n)) (one_some _ x y f g) p
   one_payload cuts others x y f g p = subst (λ (w : CutWords). P (Cut w)) (one_some _ x y f g) p
   one_payload packs others x y f g p = subst (λ (h : Y4mHeader). P (Pack h)) (one_some _ x y f g) p

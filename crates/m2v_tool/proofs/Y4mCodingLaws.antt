@@ -35,15 +35,17 @@ use Rattle.m2v_tool.specs.declared.encode.EncodeOutcome.{EncodeOutcome}
 use Rattle.m2v_tool.specs.declared.encode.EncodeOutcome.TheVariants.{Coded, Unfit as NotFit, Unopened, Stopped}
 use Rattle.m2v_tool.specs.declared.encode_y4m.Y4mOutcome.{Y4mOutcome}
 use Rattle.m2v_tool.specs.declared.encode_y4m.Y4mOutcome.TheVariants.{Unread, Encoded, Broken}
-use Rattle.m2v_tool.specs.Endings.{Told, whole, cut, unfit_ending}
+use Rattle.m2v_tool.specs.Endings.{Told, whole, cut, unfit_ending, unopened_ending}
 use Rattle.m2v_tool.specs.EncodeWords.{Meant}
 use Rattle.m2v_tool.specs.Inputs.{AreFrames, EndInside}
-use Rattle.m2v_tool.specs.Encoding.{recon_by, Shut, Stands, frame_size, EncodeStopped, EncodeShut, EncodeComes, encoding_stopped, unopened_ending, encoded_ending, encode_ending}
+use Rattle.m2v_tool.specs.Places.{recon_by, Shut, Stands}
+use Rattle.m2v_tool.specs.Encoding.{frame_size, EncodeStopped, EncodeShut, EncodeComes, encoding_stopped, encoded_ending, encode_ending}
 use Rattle.m2v_tool.specs.Packing.{Says, y4m_fault}
 use Rattle.m2v_tool.specs.Y4mWords.{with_header}
 use Rattle.m2v_tool.specs.Y4mCoding.{Behind, frames_change, frames_work, BrokenOff, FramesCome, read_behind, Y4mComes, unread_ending, y4m_ending, Y4mAnswer, Y4mKeeps}
 use Rattle.m2v_tool.specs.Runs.{Run, Work, Place, work_of, IsUntouched, Yields, NoneFailed, Succeeds}
 use Rattle.m2v_tool.proofs.EndingLaws.{refusal, or_memory}
+use Rattle.m2v_tool.proofs.PlaceLaws.{failed_of}
 use Rattle.m2v_tool.proofs.DoneLaws.{text_done, no_success}
 use Rattle.m2v_tool.proofs.CodingLaws.{frames_length, all_read, not_inside, not_empty, not_many}
 use Rattle.m2v_tool.proofs.EncodingLaws.{least_step}
@@ -303,11 +305,7 @@ module _ (r : Run) (n : Meant) (c : Coming) (left : Change) (told : left.old ≡
 
   -- the count of recon rose
   recon_rose : Passes n.settings → r.status ≡ 8 → (recon_by n.recon r.recon).Failed → Yields r (Y4mAnswer r n c)
-  recon_rose passes is rose = by_name n.recon rose
-    where
-      by_name : (o : Option (List ℕ)) → (recon_by o r.recon).Failed → Yields r (Y4mAnswer r n c)
-      by_name (Some name) f = Yields.said (Y4mAnswer.recon passes f is)
-      by_name None f = absurd f
+  recon_rose passes is rose = Yields.said (Y4mAnswer.recon passes (failed_of n.recon r.recon rose) is)
 
   stopped_at : (e : EncodeError) → EncodeStopped n work e → Told (encoding_stopped e) r.status r.report → Yields r (Y4mAnswer r n c)
   unfolding Stops encoding_stopped

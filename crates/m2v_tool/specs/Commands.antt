@@ -2,6 +2,7 @@
 use Rattle.std.specs.Prelude.{ℕ, List}
 use Rattle.m2v_tool.specs.declared.flat.FlatWords.{FlatWords}
 use Rattle.m2v_tool.specs.declared.encode.EncodeWords.{EncodeWords}
+use Rattle.m2v_tool.specs.declared.mend.MendWords.{MendWords}
 use Rattle.m2v_y4m.specs.declared.header.Y4mHeader.{Y4mHeader}
 use Rattle.m2v_audit.specs.declared.asked.Asked.{Asked}
 use Rattle.m2v_tool.specs.declared.cut.CutWords.{CutWords}
@@ -18,7 +19,7 @@ use Rattle.m2v_tool.specs.Encoding.{EncodeComes, EncodeKeeps, encode_ending}
 use Rattle.m2v_tool.specs.Decoding.{DecodeComes, DecodeKeeps, decode_ending}
 use Rattle.m2v_tool.specs.Checking.{CheckComes, CheckKeeps, check_ending}
 use Rattle.m2v_tool.specs.Auditing.{AuditComes, AuditKeeps, audit_ending}
-use Rattle.m2v_tool.specs.Mending.{MendComes, MendKeeps, mend_ending}
+use Rattle.m2v_tool.specs.Mending.{list_named, MendComes, MendKeeps, mend_ending}
 use Rattle.m2v_tool.specs.Making.{MakeComes, MakeKeeps, make_ending}
 use Rattle.m2v_tool.specs.Cutting.{CutComes, CutKeeps, cut_ending}
 use Rattle.m2v_tool.specs.Y4mCoding.{Y4mComes, Y4mKeeps, y4m_ending}
@@ -43,7 +44,7 @@ Comes words k (outcomes.Audit o) =
     (w : Asked) × Means words (commands.Audit w) × AuditComes w k.input k.output o
     × k.recon.Unchanged
 Comes words k (outcomes.Mend o) =
-    Means words commands.Mend × MendComes k.input k.output o × k.recon.Unchanged
+    (w : MendWords) × Means words (commands.Mend w) × MendComes (list_named w) k o
 Comes words k (outcomes.Make o) =
     (seed : ℕ) × Means words (commands.Make seed) × MakeComes seed k.output o
     × k.input.Unchanged × k.recon.Unchanged
@@ -81,7 +82,7 @@ Keeps (commands.Encode w) r = EncodeKeeps (words_of w) r
 Keeps (commands.Decode workers) r = DecodeKeeps workers r
 Keeps commands.Check r = CheckKeeps r
 Keeps (commands.Audit w) r = AuditKeeps w r
-Keeps commands.Mend r = MendKeeps r
+Keeps (commands.Mend w) r = MendKeeps (list_named w) r
 Keeps (commands.Make seed) r = MakeKeeps seed r
 Keeps (commands.Cut w) r = CutKeeps w r
 Keeps (commands.Pack h) r = PackKeeps h r

@@ -1,47 +1,21 @@
 -- What `encode` does: which outcome comes, what stands in input, output and recon then, and what is answered to an input.
-use Rattle.std.specs.Prelude.{ℕ, ◌≡◌, ◌*◌, ◌<◌, IsTrue, IsFalse, IfSome, [], ◌∷◌, Option, Some, None, length, codes}
-use Rattle.clap.specs.Walk.{Text}
-use Rattle.m2v_port.specs.Ends.{Change, Tells}
+use Rattle.std.specs.Prelude.{ℕ, ◌≡◌, ◌*◌, ◌<◌, [], ◌∷◌, None, length, codes}
+use Rattle.m2v_port.specs.Ends.{Tells}
 use Rattle.m2v_port.specs.declared.error.PortError.{PortError}
-use Rattle.m2v_port.specs.declared.error.PortError.TheVariants as calls
 use Rattle.m2v_plane.specs.Raw.{frame_bytes}
 use Rattle.m2v_set.specs.Numbers.{dims_of}
 use Rattle.m2v_set.specs.Rules.{Passes, FirstUnfit}
 use Rattle.m2v_make.specs.m2v_encode.declared.answer.Summary.{Summary}
 use Rattle.m2v_make.specs.m2v_encode.declared.answer.EncodeError.{EncodeError}
 use Rattle.m2v_make.specs.m2v_encode.declared.answer.EncodeError.TheVariants as errors
-use Rattle.m2v_make.specs.m2v_encode.Answers.{AllCoded, Stops, most_frames, unshown}
+use Rattle.m2v_make.specs.m2v_encode.Answers.{AllCoded, Stops, most_frames}
 use Rattle.m2v_tool.specs.declared.encode.EncodeOutcome.{EncodeOutcome}
 use Rattle.m2v_tool.specs.declared.encode.EncodeOutcome.TheVariants.{Coded, Unfit as NotFit, Unopened, Stopped}
-use Rattle.m2v_tool.specs.Endings.{Ending, Success, read_fault, write_fault, no_memory, unfit_ending, short_frame, no_frames, too_many_frames}
+use Rattle.m2v_tool.specs.Endings.{Ending, Success, read_fault, write_fault, no_memory, unopened_ending, unfit_ending, short_frame, no_frames, too_many_frames}
 use Rattle.m2v_tool.specs.EncodeWords.{Meant}
 use Rattle.m2v_tool.specs.Runs.{Run, Work, work_of, Yields, RefusedBy, NoneFailed, Succeeds}
+use Rattle.m2v_tool.specs.Places.{recon_by, Stands, Shut}
 use Rattle.m2v_tool.specs.Inputs.{AreFrames, EndInside}
-
--- ---- recon
-
--- what was done to recon: it counts as it was where it holds what it held
-abbrev pub opened : Change → Change
-opened c = record { old = c.old; new = c.new; Failed = c.Failed; Unchanged = c.new ≡ c.old }
-
--- where no name is given nothing is done to it
-abbrev pub recon_by : Option Text → Change → Change
-recon_by (Some name) c = opened c
-recon_by None c = unshown
-
--- it is open under the name that is given; where none is, it is as it was, its count too
-abbrev pub Stands : Option Text → Work → Type 0
-Stands (Some name) k = IsTrue k.place.ready × IfSome k.place.name (λ told. told ≡ name)
-Stands None k = k.recon.Unchanged
-
--- it wasn't opened, and nothing else was looked at
-abbrev pub Shut : PortError → Work → Type 0
-Shut calls.Failed k =
-    k.recon.Failed × IsFalse k.place.ready × (k.recon.new ≡ k.recon.old)
-    × k.input.Unchanged × k.output.Unchanged
-Shut calls.Memory k =
-    IsFalse k.place.ready × (k.recon.new ≡ k.recon.old)
-    × k.input.Unchanged × k.output.Unchanged
 
 -- ---- outcomes
 
@@ -82,11 +56,6 @@ encoding_stopped (errors.ShortFrame extra) = short_frame extra
 encoding_stopped errors.NoFrames = no_frames
 encoding_stopped errors.TooManyFrames = too_many_frames
 encoding_stopped errors.Memory = no_memory
-
--- of a place that wasn't opened
-unfoldable pub unopened_ending : PortError → Ending
-unopened_ending calls.Failed = write_fault
-unopened_ending calls.Memory = no_memory
 
 -- of a stream with these numbers
 unfoldable pub encoded_ending : Summary → Ending

@@ -2,6 +2,8 @@
 use Rattle.std.specs.Prelude.{ℕ, ◌≡◌, ◌⊎◌, ◌==◌, List, [], ◌∷◌, ◌++◌, codes, decimal, if◌then◌else◌}
 use Rattle.m2v_port.specs.Ends.{Change}
 use Rattle.m2v_port.specs.Port.{Grows, GrowsByPrefix}
+use Rattle.m2v_port.specs.declared.error.PortError.{PortError}
+use Rattle.m2v_port.specs.declared.error.PortError.TheVariants as calls
 use Rattle.m2v_set.specs.declared.unfit.Unfit.{Unfit}
 use Rattle.m2v_model.specs.Pieces.{Limit, too_long, too_large}
 use Rattle.m2v_dec_piece.specs.declared.answer.Fault.{Fault}
@@ -63,6 +65,11 @@ write_fault = plain 8 (codes "write fault")
 
 abbrev pub no_memory : Ending
 no_memory = plain 12 (codes "no memory")
+
+-- a place that wasn't opened
+unfoldable pub unopened_ending : PortError → Ending
+unopened_ending calls.Failed = write_fault
+unopened_ending calls.Memory = no_memory
 
 -- settings that don't pass: the first condition that fails
 unfoldable pub unfit_ending : Unfit → Ending

@@ -3,6 +3,7 @@ pub mod Words
 pub mod EncodeWords
 pub mod Endings
 pub mod Runs
+pub mod Places
 pub mod Inputs
 pub mod Coding
 pub mod Decoding

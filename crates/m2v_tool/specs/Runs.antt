@@ -2,7 +2,8 @@
 use Rattle.std.specs.Prelude.{ℕ, ◌≡◌, ◌⊎◌, Bool, List, Option}
 use Rattle.m2v_port.specs.Ends.{Change}
 
--- how the place for reconstructions stands in the end: whether it is open, and the name that it tells
+-- how the place for a file beside output, of reconstructions or of a list, stands in the end: whether it is open, and the
+-- name that it tells
 pub record Place : Type 0 where
   pub ready : Bool
   pub name : Option (List ℕ)

@@ -12,6 +12,7 @@ use Rattle.m2v_tool.specs.declared.command.Command.TheVariants.{Flat, Encode, De
 use Rattle.m2v_tool.specs.EncodeWords.{encode_meant, words_of}
 use Rattle.m2v_tool.specs.Decoding.{decode_meant}
 use Rattle.m2v_tool.specs.Auditing.{audit_meant}
+use Rattle.m2v_tool.specs.Mending.{list_named, mend_meant}
 use Rattle.m2v_tool.specs.Making.{make_meant}
 use Rattle.m2v_tool.specs.Cutting.{cut_meant}
 use Rattle.m2v_tool.specs.Packing.{pack_meant}
@@ -47,7 +48,7 @@ MeansBy name others (Decode workers) =
 MeansBy name others Check =
     (name ≡ codes "check") × (stands_alone (codes "check") others ≡ true)
 MeansBy name others (Audit w) = (name ≡ codes "audit") × (audit_meant others ≡ Some w)
-MeansBy name others Mend = (name ≡ codes "mend") × (stands_alone (codes "mend") others ≡ true)
+MeansBy name others (Mend w) = (name ≡ codes "mend") × (mend_meant others ≡ Some (list_named w))
 MeansBy name others (Make seed) = (name ≡ codes "make") × (make_meant others ≡ Some seed)
 MeansBy name others (Cut w) = (name ≡ codes "cut") × (cut_meant others ≡ Some w)
 MeansBy name others (Pack h) = (name ≡ codes "pack") × (pack_meant others ≡ Some h)

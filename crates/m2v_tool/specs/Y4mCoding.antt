@@ -22,7 +22,8 @@ use Rattle.m2v_tool.specs.Endings.{Ending, Told, Success, read_fault, no_memory}
 use Rattle.m2v_tool.specs.EncodeWords.{Meant}
 use Rattle.m2v_tool.specs.Y4mWords.{with_header}
 use Rattle.m2v_tool.specs.Inputs.{AreFrames, EndInside}
-use Rattle.m2v_tool.specs.Encoding.{EncodeComes, EncodeDone, Stands, encode_ending, encoded_ending, frame_size, recon_by}
+use Rattle.m2v_tool.specs.Places.{recon_by, Stands}
+use Rattle.m2v_tool.specs.Encoding.{EncodeComes, EncodeDone, encode_ending, encoded_ending, frame_size}
 use Rattle.m2v_tool.specs.Packing.{Says, y4m_fault}
 use Rattle.m2v_tool.specs.Runs.{Run, Work, work_of, Yields, NoneFailed, Succeeds}
 

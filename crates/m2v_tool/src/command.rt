@@ -12,7 +12,7 @@ use crate::encode::{EncodeOutcome, EncodeWords, encode_words};
 use crate::encode_y4m::{Y4mOutcome, y4m_words};
 use crate::flat::{FlatOutcome, FlatWords, flat_words};
 use crate::make::{MakeOutcome, make_words};
-use crate::mend::{MendOutcome, mend_words};
+use crate::mend::{MendOutcome, MendWords, mend_words};
 use crate::pack::{PackOutcome, pack_words};
 use crate::report::{Report, no_memory, usage};
 use crate::unpack::{UnpackOutcome, unpack_words};
@@ -34,7 +34,7 @@ pub enum Command {
     /// All that is wrong with a stream is reported.
     Audit(Asked),
     /// What decodes of an input is copied.
-    Mend,
+    Mend(MendWords),
     /// The stream of a seed is made.
     Make(u64),
     /// Groups of a stream are copied.
@@ -129,10 +129,10 @@ fn meant_by(alloc: Global, name: &str, others: &[String]) -> Result<Option<Comma
             Some(meant) => Ok(Some(Command::Audit(meant))),
             None => Ok(None),
         },
-        "mend" => {
-            let taken = mend_words(alloc, others)?;
-            Ok(taken.then_some(Command::Mend))
-        }
+        "mend" => match mend_words(alloc, others)? {
+            Some(meant) => Ok(Some(Command::Mend(meant))),
+            None => Ok(None),
+        },
         "make" => match make_words(alloc, others)? {
             Some(seed) => Ok(Some(Command::Make(seed))),
             None => Ok(None),

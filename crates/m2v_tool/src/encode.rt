@@ -1,19 +1,20 @@
 ghost use Rattle.std.specs.Prelude.{◌≡◌, ◌≤◌, ◌++◌, Some, None, map, option_map, string_bytes, codes, IfOk, IsTrue, IsFalse};
 ghost use Rattle.m2v_port.specs.Ends.{change, SinkStays};
 ghost use Rattle.m2v_tool.specs.Endings.{IsReport};
-ghost use Rattle.m2v_tool.specs.Encoding.{EncodeComes, encode_ending, encoded_ending, encoding_stopped, unopened_ending};
-ghost use Rattle.clap.specs.Walk.{first_of, rows_of};
+ghost use Rattle.m2v_tool.specs.Encoding.{EncodeComes, encode_ending, encoded_ending, encoding_stopped};
+ghost use Rattle.clap.specs.Walk.{rows_of};
 ghost use Rattle.clap.specs.Matches.{found_of};
 ghost use Rattle.clap.specs.Simple.{app_of};
 ghost use Rattle.m2v_tool.specs.Simple.{simple, with_rules};
 ghost use Rattle.m2v_tool.specs.EncodeWords.{encode_app, encode_meant, needed, numbers, others, level_in, level_named, meant_of, plan_in, plan_named, scan_in, scan_named, settings_of, words_of};
 
 use crate::report::{
-    Report, no_frames, no_memory, read_fault, short_frame, too_many_frames, unfit, write_fault,
+    Report, no_frames, no_memory, read_fault, short_frame, too_many_frames, unfit, unopened,
+    write_fault,
 };
 use crate::words::{
-    flag, flag_option, number, number_option, number_or, required, required_option, simple, taken,
-    text, text_option, text_or, with,
+    file_named, flag, flag_option, number, number_option, number_or, required, required_option,
+    simple, taken, text_option, text_or, with,
 };
 use clap::{ArgMatches, Command};
 use m2v_board::Gate;
@@ -168,17 +169,6 @@ fn encode_command<'a>(alloc: Global) -> Result<Command<'a>, AllocError>
     with_options(alloc, command)
 }
 
-/// The name of the file for reconstructions, where one was given.
-fn recon_in(alloc: Global, matches: &ArgMatches) -> Result<Option<String>, AllocError>
-    ensures { IfOk result (λ r. option_map string_bytes r
-        ≡ first_of (codes "recon") (rows_of (found_of matches.now))) }
-{
-    match text(matches, "recon") {
-        Some(name) => Ok(Some(String::from_str(alloc, name)?)),
-        None => Ok(None),
-    }
-}
-
 /// What was found in the words behind `encode`.
 #[tactic(auto, unfolding(crate::specs::EncodeWords::meant_of))]
 pub(crate) fn meant_of(
@@ -196,7 +186,7 @@ pub(crate) fn meant_of(
     let Some(planning) = plan_in(matches) else {
         return Ok(None);
     };
-    let recon = recon_in(alloc, matches)?;
+    let recon = file_named(alloc, matches, "recon")?;
     Ok(Some(EncodeWords {
         settings: settings_of(matches, scan, level, planning),
         recon,
@@ -260,17 +250,6 @@ fn told(alloc: Global, summary: &Summary) -> Result<Report, AllocError>
             u128::from(summary.stuffing),
         ],
     )
-}
-
-/// The report of a place that wasn't opened.
-#[tactic(auto, unfolding(crate::specs::Encoding::unopened_ending))]
-fn unopened(alloc: Global, error: PortError) -> Result<Report, AllocError>
-    ensures { IfOk result (λ r. IsReport r (unopened_ending error)) }
-{
-    match error {
-        PortError::Failed => write_fault(alloc),
-        PortError::Memory => no_memory(alloc),
-    }
 }
 
 /// The report of an encoder that stopped.

@@ -1,24 +1,46 @@
-ghost use Rattle.std.specs.Prelude.{◌≡◌, ◌≤◌, codes, map, string_bytes, IfOk, IsTrue};
+ghost use Rattle.std.specs.Prelude.{◌≡◌, ◌≤◌, Some, None, map, option_map, string_bytes, IfOk, IsTrue, IsFalse};
+ghost use Rattle.clap.specs.Simple.{app_of};
 ghost use Rattle.m2v_port.specs.Ends.{change, SinkStays};
 ghost use Rattle.m2v_mend.specs.Making.{fault_told};
 ghost use Rattle.m2v_mend.specs.m2v_law_seam.Told.{all_kept, some_kept, none_kept};
 ghost use Rattle.m2v_tool.specs.Endings.{IsReport};
-ghost use Rattle.m2v_tool.specs.Simple.{stands_alone};
-ghost use Rattle.m2v_tool.specs.Mending.{MendComes, mend_ending, mended_ending, mending_stopped, told_ending};
+ghost use Rattle.m2v_tool.specs.Mending.{MendComes, list_named, mend_app, mend_ending, mend_meant, mended_ending, mending_stopped, told_ending};
 
-use crate::report::{Report, no_memory, read_fault, too_large, too_long, write_fault};
-use crate::words::stands_alone;
+use crate::report::{Report, no_memory, read_fault, too_large, too_long, unopened, write_fault};
+use crate::words::{file_named, simple, taken, text_option};
+use clap::Command;
 use m2v_audit::fault_word;
 use m2v_cut::decode::Fault;
-use m2v_mend::{Answer, MendError, mend};
-use m2v_port::{Sink, Source};
+use m2v_mend::{Answer, MendError, mend, mend_listed};
+use m2v_port::{NamedSink, PortError, Sink, Source};
 use std::alloc::{AllocError, Global};
 
-/// Whether the words behind `mend` are taken.
-pub(crate) fn mend_words(alloc: Global, words: &[String]) -> Result<bool, AllocError>
-    ensures { IfOk result (λ b. b ≡ stands_alone (codes "mend") (map string_bytes words.now)) }
+/// What the words behind `mend` say.
+#[derive(Debug, Drop)]
+pub struct MendWords {
+    /// The name of the file for the list of what was left out, where one is wanted.
+    pub list: Option<String>,
+}
+
+/// The options behind `mend`.
+fn mend_command<'a>(alloc: Global) -> Result<Command<'a>, AllocError>
+    ensures { IfOk result (λ c. app_of c ≡ mend_app) }
 {
-    stands_alone(alloc, "mend", words)
+    simple(alloc, "mend").arg(text_option(alloc, "list"))
+}
+
+/// What the words behind `mend` mean, where they are taken.
+pub(crate) fn mend_words(alloc: Global, words: &[String]) -> Result<Option<MendWords>, AllocError>
+    ensures { IfOk result (λ w. option_map list_named w
+        ≡ mend_meant (map string_bytes words.now)) }
+{
+    match taken(mend_command(alloc)?, words)? {
+        Some(matches) => {
+            let list = file_named(alloc, &matches, "list")?;
+            Ok(Some(MendWords { list }))
+        }
+        None => Ok(None),
+    }
 }
 
 /// What came of `mend`.
@@ -26,6 +48,8 @@ pub(crate) fn mend_words(alloc: Global, words: &[String]) -> Result<bool, AllocE
 pub enum MendOutcome {
     /// The input was read to its end.
     Mended(Answer),
+    /// The place for the list wasn't opened.
+    Unopened(PortError),
     /// Mending stopped.
     Stopped(MendError),
 }
@@ -38,6 +62,7 @@ impl MendOutcome {
     {
         match self {
             MendOutcome::Mended(answer) => told(alloc, answer),
+            MendOutcome::Unopened(error) => unopened(alloc, *error),
             MendOutcome::Stopped(error) => stopped(alloc, error),
         }
     }
@@ -127,21 +152,82 @@ fn stopped(alloc: Global, error: &MendError) -> Result<Report, AllocError>
     }
 }
 
-/// Copies what decodes of the input.
-pub(crate) fn mended<S: Source, K: Sink>(
+/// Copies what decodes of the input, where no list is wanted.
+fn mended_alone<S: Source, K: Sink, N: NamedSink>(
     alloc: Global,
     input: &mut S,
     output: &mut K,
+    _recon: &mut N,
 ) -> MendOutcome
     requires { IsTrue (K.ready output.old) }
-    ensures comes { MendComes
-        (change S.left S.faults input.old input.new)
-        (change K.held K.faults output.old output.new) result }
+    ensures comes { MendComes None (record {
+      input = change S.left S.faults input.old input.new;
+      output = change K.held K.faults output.old output.new;
+      recon = change N.held N.faults _recon.old _recon.new;
+      place = record { ready = N.ready _recon.new; name = N.name _recon.new };
+    }) result }
+    ensures recon { _recon.new ≡ _recon.old }
     ensures output { SinkStays K.ready K.name K.faults output.old output.new }
     ensures input { S.faults input.old ≤ S.faults input.new }
 {
     match mend(alloc, input, output) {
         Ok(answer) => MendOutcome::Mended(answer),
         Err(error) => MendOutcome::Stopped(error),
+    }
+}
+
+/// Opens the place for the list under this name, and copies what decodes of the input.
+fn mended_beside<S: Source, K: Sink, N: NamedSink>(
+    alloc: Global,
+    name: &str,
+    input: &mut S,
+    output: &mut K,
+    recon: &mut N,
+) -> MendOutcome
+    requires output { IsTrue (K.ready output.old) }
+    requires recon { IsFalse (N.ready recon.old) }
+    ensures comes { MendComes (Some name.now) (record {
+      input = change S.left S.faults input.old input.new;
+      output = change K.held K.faults output.old output.new;
+      recon = change N.held N.faults recon.old recon.new;
+      place = record { ready = N.ready recon.new; name = N.name recon.new };
+    }) result }
+    ensures recon { N.faults recon.old ≤ N.faults recon.new }
+    ensures output { SinkStays K.ready K.name K.faults output.old output.new }
+    ensures input { S.faults input.old ≤ S.faults input.new }
+{
+    match recon.open(name) {
+        Ok(()) => {}
+        Err(error) => return MendOutcome::Unopened(error),
+    }
+    match mend_listed(alloc, input, output, recon) {
+        Ok(answer) => MendOutcome::Mended(answer),
+        Err(error) => MendOutcome::Stopped(error),
+    }
+}
+
+/// Copies what decodes of the input.
+pub(crate) fn mended<S: Source, K: Sink, N: NamedSink>(
+    alloc: Global,
+    meant: &MendWords,
+    input: &mut S,
+    output: &mut K,
+    recon: &mut N,
+) -> MendOutcome
+    requires output { IsTrue (K.ready output.old) }
+    requires recon { IsFalse (N.ready recon.old) }
+    ensures comes { MendComes (list_named meant.now) (record {
+      input = change S.left S.faults input.old input.new;
+      output = change K.held K.faults output.old output.new;
+      recon = change N.held N.faults recon.old recon.new;
+      place = record { ready = N.ready recon.new; name = N.name recon.new };
+    }) result }
+    ensures recon { N.faults recon.old ≤ N.faults recon.new }
+    ensures output { SinkStays K.ready K.name K.faults output.old output.new }
+    ensures input { S.faults input.old ≤ S.faults input.new }
+{
+    match &meant.list {
+        Some(name) => mended_beside(alloc, name.as_str(), input, output, recon),
+        None => mended_alone(alloc, input, output, recon),
     }
 }

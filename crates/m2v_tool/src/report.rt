@@ -1,9 +1,10 @@
 ghost use Rattle.std.specs.Prelude.{◌≡◌, ◌++◌, [], ◌==◌, codes, decimal, map, length, nat_lt, slice_index, if◌then◌else◌, IfOk, OnOk};
 ghost use Rattle.m2v_model.specs.Pieces.{too_large, too_long};
-ghost use Rattle.m2v_tool.specs.Endings.{IsReport, ending_past, line_text, no_frames, no_memory, read_fault, short_frame, stream_fault, too_many_frames, unfit_ending, usage, write_fault};
+ghost use Rattle.m2v_tool.specs.Endings.{IsReport, ending_past, line_text, no_frames, no_memory, read_fault, short_frame, stream_fault, too_many_frames, unfit_ending, unopened_ending, usage, write_fault};
 
 use itoa::Buffer;
 use m2v_cut::decode::{Fault, fault_word};
+use m2v_port::PortError;
 use m2v_set::Unfit;
 use std::alloc::{AllocError, Global};
 
@@ -61,6 +62,17 @@ pub(crate) fn no_memory(alloc: Global) -> Result<Report, AllocError>
     ensures { IfOk result (λ r. IsReport r no_memory) }
 {
     Report::new(alloc, 12, &["no memory"], &[])
+}
+
+/// A place wasn't opened.
+#[tactic(auto, unfolding(crate::specs::Endings::unopened_ending))]
+pub(crate) fn unopened(alloc: Global, error: PortError) -> Result<Report, AllocError>
+    ensures { IfOk result (λ r. IsReport r (unopened_ending error)) }
+{
+    match error {
+        PortError::Failed => write_fault(alloc),
+        PortError::Memory => no_memory(alloc),
+    }
 }
 
 /// The settings don't pass: the first condition that fails.

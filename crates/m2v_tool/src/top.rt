@@ -61,7 +61,9 @@ fn carried_out<R: Threads + Wait + Sync, S: Source, K: Sink, N: NamedSink, G: Ga
         }
         Ok(Some(Command::Check)) => Outcome::Check(judged(alloc, input)),
         Ok(Some(Command::Audit(meant))) => Outcome::Audit(audited(alloc, &meant, input, output)),
-        Ok(Some(Command::Mend)) => Outcome::Mend(mended(alloc, input, output)),
+        Ok(Some(Command::Mend(meant))) => {
+            Outcome::Mend(mended(alloc, &meant, input, output, recon))
+        }
         Ok(Some(Command::Make(seed))) => Outcome::Make(made(rt, alloc, seed, output, gate)),
         Ok(Some(Command::Cut(meant))) => Outcome::Cut(cut_out(alloc, &meant, input, output)),
         Ok(Some(Command::Pack(header))) => {
@@ -108,13 +110,14 @@ fn reported<E: Sink>(alloc: Global, outcome: &Outcome, report: &mut E) -> Status
 /// decodes the stream of `input` (ISO/IEC 13818-2) and writes the frames that it shows to `output` as raw video, in
 /// display order, with workers that `rt` runs and `gate` lets in. `check` says of the stream of `input` whether it keeps
 /// the rules of its level, and whether the decoder's buffer bears it; `audit` writes to `output` all that is wrong with
-/// the sequences of `input`. `mend` copies what decodes of `input` to `output`, a stream without a fault. `make SEED`
-/// writes a large lawful stream of a seed. `encode` codes the raw frames of `input` to `output` by its options, with
-/// workers that `rt` runs and `gate` lets in; where its words name a file, `recon` is opened under this name, and gets the
-/// frames that the stream decodes to. `cut FROM COUNT` copies whole groups of the stream of `input` to `output`, so many
-/// from number FROM on. `pack W H CODE` writes the raw frames of `input` as a YUV4MPEG2 text, and `unpack` the frames of
-/// such a text as raw video. `encode-y4m` codes the frames of such a text as `encode` does, with the sizes and the rate of
-/// its header.
+/// the sequences of `input`. `mend` copies what decodes of `input` to `output`, a stream without a fault; where its words
+/// name a file, `recon` is opened under this name before `input` is read, and gets a line for each gap, of what was left
+/// out there. `make SEED` writes a large lawful stream of a seed. `encode` codes the raw frames of `input` to `output` by
+/// its options, with workers that `rt` runs and `gate` lets in; where its words name a file, `recon` is opened under this
+/// name, and gets the frames that the stream decodes to. `cut FROM COUNT` copies whole groups of the stream of `input` to
+/// `output`, so many from number FROM on. `pack W H CODE` writes the raw frames of `input` as a YUV4MPEG2 text, and
+/// `unpack` the frames of such a text as raw video. `encode-y4m` codes the frames of such a text as `encode` does, with
+/// the sizes and the rate of its header.
 pub fn run<R: Threads + Wait + Sync, S: Source, K: Sink, N: NamedSink, E: Sink, G: Gate + Sync>(
     rt: &R,
     alloc: Global,

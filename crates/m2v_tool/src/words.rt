@@ -59,6 +59,21 @@ pub(crate) fn text<'a>(matches: &ArgMatches<'a>, id: &str) -> Option<&'a str>
     matches.get_str(id)
 }
 
+/// The name of a file that was given under a name, where there is one.
+pub(crate) fn file_named(
+    alloc: Global,
+    matches: &ArgMatches,
+    id: &str,
+) -> Result<Option<String>, AllocError>
+    ensures { IfOk result (λ f. option_map string_bytes f
+        ≡ first_of id.now (rows_of (found_of matches.now))) }
+{
+    match text(matches, id) {
+        Some(name) => Ok(Some(String::from_str(alloc, name)?)),
+        None => Ok(None),
+    }
+}
+
 /// The text that was given under a name, or this one.
 pub(crate) fn text_or<'a>(matches: &ArgMatches<'a>, id: &str, otherwise: &'a str) -> &'a str
     ensures { result.now

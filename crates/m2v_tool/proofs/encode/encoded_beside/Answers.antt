@@ -1,7 +1,8 @@
 use Rattle.std.proofs.Common.{◌≡◌, ℕ, List, Option, IfSome, Err, refl, ap, sym, subst}
 use Rattle.m2v_port.specs.Ends.{change}
 use Rattle.m2v_tool.specs.Encoding.{EncodeComes}
-use Rattle.m2v_tool.proofs.EncodingLaws.{coded_from, stops_from, shut_of}
+use Rattle.m2v_tool.proofs.EncodingLaws.{coded_from, stops_from}
+use Rattle.m2v_tool.proofs.PlaceLaws.{shut_of}
 use Rattle.m2v_tool.proofs.encode.encoded_beside.Goals as goal
 
 pub returns-in-Err-clause-comes : goal.returns-in-Err-clause-comes

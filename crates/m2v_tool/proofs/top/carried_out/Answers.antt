@@ -75,4 +75,4 @@ pub returns-in-Ok-Some-Mend-clause-comes : goal.returns-in-Ok-Some-Mend-clause-c
 unfolding Comes
 returns-in-Ok-Some-Mend-clause-comes g c =
     let read = c.in-Ok-Some-Mend in
-    (means_of _ _ _ _ read.field-0-is read.field-0-0-is read.ensures.found, c.mended.ensures.comes, refl)
+    (_, means_of _ _ _ _ read.field-0-is read.field-0-0-is read.ensures.found, c.mended.ensures.comes)
