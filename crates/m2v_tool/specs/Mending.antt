@@ -119,11 +119,11 @@ pub record MendDone (name : Option Text) (k : Work) (a : Answer) : Type 0 where
   pub read : MendRead name k a
   pub all : status_of (answer_told a) ≡ 0
 
--- What is answered to `mend`, by the name for the list, and what holds of it. With status 0 no picture was left out; every text has
--- its one answer; and one of which no picture is left out succeeds, unless it passes a limit. The mended text is a stream without a fault, and shows what
--- its strands show, each decoded by itself; a stream without a fault stays as it is, and so does what was mended; what is left out
--- reads neither behind the strand under way nor by itself; each unit and each picture of the input is kept or told as left out,
--- with its place, and the numbers of the answer are theirs.
+-- What is answered to `mend`, by the name for the list, and what holds of it. With status 0 no picture was left out; every text
+-- has its one answer; and one of which no picture is left out succeeds, unless it passes a limit. The mended text is a stream
+-- without a fault, and shows what its strands show, each decoded by itself; a stream without a fault stays as it is, and so does
+-- what was mended; what is left out reads neither behind the strand under way nor by itself; each unit and each picture of the
+-- input is kept or told as left out, with its place, and the numbers of the answer are theirs.
 pub record MendKeeps (name : Option Text) (r : Run) : Type 0 where
   pub done : r.status ≡ 0 → Success (MendDone name (work_of r)) mended_ending r.report
   pub answer : Tells r.input (λ text. Yields r (MendAnswer r name text))
