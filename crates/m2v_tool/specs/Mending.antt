@@ -8,7 +8,7 @@ use Rattle.m2v_port.specs.Port.{Grows, GrowsByPrefix}
 use Rattle.m2v_port.specs.declared.error.PortError.{PortError}
 use Rattle.m2v_model.specs.Pieces.{Limit, too_long, too_large}
 use Rattle.m2v_cut.specs.m2v_decode.Answers.{OfText}
-use Rattle.m2v_audit.specs.FaultWords.{fault_word}
+use Rattle.m2v_cut.specs.m2v_decode.FaultWords.{fault_word}
 use Rattle.m2v_mend.specs.declared.answer.Answer.{Answer}
 use Rattle.m2v_mend.specs.declared.answer.MendError.{MendError}
 use Rattle.m2v_mend.specs.declared.answer.MendError.TheVariants as errors

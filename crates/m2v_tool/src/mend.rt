@@ -9,8 +9,7 @@ ghost use Rattle.m2v_tool.specs.Mending.{MendComes, list_named, mend_app, mend_e
 use crate::report::{Report, no_memory, read_fault, too_large, too_long, unopened, write_fault};
 use crate::words::{file_named, simple, taken, text_option};
 use clap::Command;
-use m2v_audit::fault_word;
-use m2v_cut::decode::Fault;
+use m2v_cut::decode::{Fault, fault_word};
 use m2v_mend::{Answer, MendError, mend, mend_listed};
 use m2v_port::{NamedSink, PortError, Sink, Source};
 use std::alloc::{AllocError, Global};
