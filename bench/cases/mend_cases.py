@@ -105,8 +105,9 @@ def add(name, comment, lines):
     CASES.append((name, comment, lines))
 
 
-def case(name, data, kept, comment='', more=(), instead=None, words='mend', behind=()):
-    """An input, and what is kept of it, without the end code; or a status and a line where something stands instead."""
+def case(name, data, kept, comment='', more=(), instead=None, words='mend', held=()):
+    """An input, and what is kept of it, without the end code; or a status and a line where something stands instead. Lines on
+    the place for reconstructions are handed in."""
     large = is_large(data)
     status, line = instead or wanted(data, kept)
     if large and not instead:
@@ -117,7 +118,7 @@ def case(name, data, kept, comment='', more=(), instead=None, words='mend', behi
     if isinstance(kept, bytes):
         lines += lines_of('output', words_of(kept + END_CODE))
         KEPT.append((name, kept + END_CODE))
-    add(('mend: ' if words == 'mend' else WITH_LIST) + name, comment, [*lines, *behind])
+    add(('mend: ' if words == 'mend' else WITH_LIST) + name, comment, [*lines, *held])
 
 
 def row_of(frames, before, left, fault):

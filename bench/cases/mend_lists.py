@@ -35,7 +35,7 @@ STRETCHES = THIRD_AT + THIRD, FIRST + SECOND_SEAM + THIRD_SEAM, *SHARED
 def singles():
     yield of('all is kept', FILM + END, FILM)
     yield of('no byte', b'', ('NoSequence', 0), comment='No unit is there that could be left out.')
-    yield of('header units behind the last end code', JOINED + USER + OPEN, FIRST,
+    yield of('header units after the last end code', JOINED + USER + OPEN, FIRST,
              (4, JOINED, USER + OPEN, ('MissingReference', 8 * len(JOINED))),
              comment='No picture is left out, so the status is 0.')
     yield of('leading B pictures', JOINED + SECOND + END, FIRST + SECOND_SEAM, (4, JOINED + SECOND_FRONT, LEAD, None))
@@ -59,7 +59,7 @@ def singles():
     typeless = with_type(p(5), 0)
     yield of('a picture of type 0', UP_TO_P + typeless, FIRST,
              (4, FIRST, SECOND_FRONT + LEAD + typeless, ('Forbidden', 8 * len(UP_TO_P) + 32 + 10)),
-             comment='It is part of the step before. Its type stands behind the start code and 10 bits.')
+             comment='It is part of the step before. Its type stands after the start code and 10 bits.')
     two, lead = field(I, TOP) + field(I, BOTTOM), field(B, TOP) + field(B, BOTTOM)
     begun = FIELDS + CLOSED + two
     yield of('leading B fields', begun + END + begun + lead, begun + FIELDS + CLOSED_SEAM + two,
@@ -109,13 +109,13 @@ def endpoints():
 def limits():
     larger = filled(S + CLOSED + i(0), MOST_PIECE + 1)
     yield of('a piece one byte larger than it may be', larger + END, ('Unsupported', 0))
-    yield of('a piece one byte larger behind others', FIRST + SECOND + larger + THIRD, FIRST + SECOND + THIRD_SEAM)
+    yield of('a piece one byte larger after others', FIRST + SECOND + larger + THIRD, FIRST + SECOND + THIRD_SEAM)
 
 
 def words():
-    for name, line, file in (('a name behind an equal sign', 'mend --list=gaps', 'gaps'),
+    for name, line, file in (('a name after an equal sign', 'mend --list=gaps', 'gaps'),
                              ('a name with a folder', 'mend --list a/b.txt', 'a/b.txt'),
-                             ('two hyphens behind the name', 'mend --list gaps --', 'gaps')):
+                             ('two hyphens after the name', 'mend --list gaps --', 'gaps')):
         yield of(name, FIRST, FIRST, words=line, file=file)
 
 

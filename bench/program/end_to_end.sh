@@ -289,7 +289,7 @@ holds 'decode: a piece too large' 14 'picture too large' none decode
 holds 'check: a piece too large' 14 'picture too large' none check
 holds 'mend: a piece too large' 14 'picture too large' none mend
 { head -c 70 two.m2v; head -c 80 two.m2v; cat in; } > torn_large.m2v
-ends 'mend with --list: a piece too large behind a fault' 14 'picture too large' mend --list gaps < torn_large.m2v > out
+ends 'mend with --list: a piece too large after a fault' 14 'picture too large' mend --list gaps < torn_large.m2v > out
 tell 'the list holds a prefix then' "$(head -c "$(wc -c < gaps)" torn_gaps | cmp - gaps 2>&1)"
 cp two.m2v in
 holds 'cut: no second group' 16 'no group have 1 need 2' none cut 1 1
