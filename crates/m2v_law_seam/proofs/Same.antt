@@ -27,7 +27,7 @@ low_zero : (ps : List (List ℕ)) → low_behind 0 ps ≡ 0
 low_zero [] = refl
 low_zero (p ∷ ps) = elim (cases_Bool (has_group (units_of p))) [ inl on ↦ rw on refl | inr off ↦ rw off refl ]
 
-lowered_none : (us : Units) → lowered 0 us ≡ us
+pub lowered_none : (us : Units) → lowered 0 us ≡ us
 unfolding lowered_unit
 lowered_none [] = refl
 lowered_none (u ∷ us) = ap (λ (l : Units). u ∷ l) (lowered_none us)

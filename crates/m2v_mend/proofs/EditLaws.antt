@@ -11,11 +11,12 @@ use Rattle.m2v_dec_unit.specs.Texts.{text_of, IsZeroEnded}
 use Rattle.m2v_dec_unit.proofs.Cuts.{both_true, text_length, none_left, ended_next}
 use Rattle.m2v_law_seam.specs.Spans.{units_of}
 use Rattle.m2v_law_seam.proofs.Edited.{KeepsUnits, mapped_units, lowered_keeps, marked_keeps}
+use Rattle.m2v_law_seam.proofs.Same.{lowered_none}
 use Rattle.m2v_mend.specs.declared.edits.Edit.{Edit}
 use Rattle.m2v_mend.specs.declared.edits.Edit.TheVariants.{Lower, Mark}
 use Rattle.m2v_decode.specs.m2v_dec_piece.declared.answer.Piece.{Piece}
 use Rattle.m2v_decode.specs.Decoding.{whole_of}
-use Rattle.m2v_mend.specs.Editing.{IsWhole, EndsInZeros, zeros_in, edited, HasRoom, IsFirstLength, IsEdited}
+use Rattle.m2v_mend.specs.Editing.{IsWhole, IsUnits, EndsInZeros, zeros_in, edited, HasRoom, IsFirstLength, IsEdited}
 
 -- ---- bytes, and the zero bytes behind them
 
@@ -358,3 +359,14 @@ piece_edited e p q old new zeros po qn kept place length left made =
       length = length;
       kept = kept;
     }
+
+-- a piece that is lowered by nothing stays
+pub lowered_by_nothing : (low : ℕ) (p : Piece) → low ≡ 0 → IsUnits p → IsEdited (Lower low) p p
+lowered_by_nothing zero p none units = record {
+  bytes = units ∙ ap joined (sym (lowered_none (units_of (whole_of p))));
+  units = sym (lowered_none (units_of (whole_of p)));
+  place = refl;
+  length = refl;
+  kept = refl;
+}
+lowered_by_nothing (suc low) p none units = absurd (omega (arith, none))

@@ -156,6 +156,10 @@ pub fn lower(piece: &mut Piece, low: u32)
     ensures sound { IsSoundPiece piece.new }
     ensures edited { IsEdited (Edit.Lower low) piece.old piece.new }
 {
+    // most pieces are lowered by nothing: their units needn't be looked for
+    if low == 0 {
+        return;
+    }
     edit_piece(piece, Edit::Lower(low));
 }
 
