@@ -1,5 +1,6 @@
 -- What is read of a strand by itself is read of it behind another one.
 use Rattle.std.proofs.Common.{◌≡◌, ℕ, true, false, List, [], ◌∷◌, ◌++◌, Option, Some, inl, inr, sym, ap, subst, ◌∙◌}
+use Rattle.std.proofs.lemmas.Option.{same_Some}
 use Rattle.std.specs.Prelude.{is_some, ◌||◌}
 use Rattle.m2v_bits.proofs.SyntaxLaws.{good}
 use Rattle.m2v_model.specs.declared.state.Sequence.{Sequence}
@@ -78,14 +79,11 @@ stand_front anchors waiting (over ∷ ps) qs h = stand_front anchors waiting ps 
 
 -- ---- a unit
 
-some_is : {A : Type 0} (x y : A) → Some x ≡ Some y → x ≡ y
-some_is x y e = cc
-
 -- no slice is left out, since the picture that is open is the same
 none_left : (w c : State) (u : List ℕ) (p q : Part) → w.picture ≡ c.picture → PartsAlike c w u p q → q ≡ p
 none_left w c u p q same (inl e) = e
 none_left w c u p q same (inr l) =
-    let one : l.other ≡ l.own = some_is l.other l.own (sym l.other_is ∙ same ∙ l.own_is) in
+    let one : l.other ≡ l.own = same_Some l.other l.own (sym l.other_is ∙ same ∙ l.own_is) in
     let wrong : true ≡ false = sym (l.left).unread ∙ ap (λ (o : Open). o.slices_unread) one ∙ l.read in
     absurd cc
 

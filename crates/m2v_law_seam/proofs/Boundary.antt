@@ -11,7 +11,6 @@ use Rattle.m2v_model.specs.declared.state.FirstField.{FirstField}
 use Rattle.m2v_model.specs.declared.state.State.{State}
 use Rattle.m2v_model.specs.Units.{Units, joined, AreUnits}
 use Rattle.m2v_model.specs.States.{at_first, none_waits, is_second_field_due}
-use Rattle.m2v_model.specs.declared.state.Sequence.{Sequence}
 use Rattle.m2v_model.specs.Streams.{Part, sequence, picture, after, value_of}
 use Rattle.m2v_model.specs.Pieces.{begins_piece, is_end}
 use Rattle.m2v_model.specs.ByPieces.{unit_read}
@@ -27,9 +26,10 @@ use Rattle.m2v_law_group.proofs.Start.{sequence_start}
 use Rattle.m2v_law_group.proofs.Core.{first_read}
 use Rattle.m2v_law_group.proofs.Between.{OtherFirst, paired_end}
 use Rattle.m2v_law_seam.specs.Spans.{units_of, has_group, is_entry, field_by, first_field, field_of, is_second, waits_behind}
+use Rattle.m2v_law_seam.proofs.Strand.{known_behind}
 use Rattle.m2v_law_seam.proofs.Fronts.{ReadOn, Rests}
 use Rattle.m2v_law_seam.proofs.Pieced.{Quiet, BeginsOne}
-use Rattle.m2v_law_seam.proofs.Fields.{Waits, second_by, next_waits, second_is, field_is, KnownFirst, piece_waits, PictureThere, picture_there}
+use Rattle.m2v_law_seam.proofs.Fields.{Waits, second_by, next_waits, second_is, field_is, piece_waits, PictureThere, picture_there, known_first, shown_first}
 
 -- ---- runs and lists
 
@@ -101,10 +101,6 @@ piece_read body rs r w z bu a begins goes =
     let i = split a.later z (bu ++ rs) (append_assoc z bu rs) begins goes (known_there a.state z a.known) in
     record { parts = i.mine; others = i.others; state = i.between; run = i.run; later = i.later }
 
-known_first : (st : State) (us : Units) → IsKnown st → KnownFirst st us
-known_first st [] k = tt
-known_first st (u ∷ us) k = inl k
-
 -- behind it
 pub at_on : (body rs : Units) (r : ReadOn (body ++ rs)) (w : ℕ) (z bu : Units) → At body rs r w (z ++ bu) → AreUnits z → Quiet false z → has_picture z ≡ true → NoEnds z → BeginsPiece z → BeginsPiece (bu ++ rs) → At body rs r (waits_behind w (joined z)) bu
 unfolding waits_behind
@@ -126,10 +122,6 @@ at_on body rs r w z bu a are quiet has goes first begins =
 
 -- ---- where a stream begins
 
-sequence_behind : (s : Sequence) → IsKnown (after at_first (sequence s))
-unfolding after
-sequence_behind s = refl
-
 -- the first units of a stream, as they were read
 record FrontRead (body rs : Units) (r : ReadOn (body ++ rs)) (fu bu : Units) : Type 0 where
   parts : List Part
@@ -145,7 +137,7 @@ front_read body rs r h t bu e is goes begins =
     let f = first_read at_first i.between h t i.mine i.run in
     let q = sequence_start at_first h t f.mid f.p is f.read in
     let run : Run (after at_first (sequence q.s)) f.mid f.later i.between [] = subst (λ (y : Part). Run (after at_first y) f.mid f.later i.between []) q.part f.run in
-    record { parts = i.mine; others = i.others; state = i.between; run = i.run; later = i.later; known = run_known run (sequence_behind q.s) }
+    record { parts = i.mine; others = i.others; state = i.between; run = i.run; later = i.later; known = run_known run (known_behind at_first q.s) }
 
 -- where it ends
 pub rest_last : (body rs : Units) (r : ReadOn (body ++ rs)) (h : List ℕ) (t : Units) → body ≡ h ∷ t → is_sequence h ≡ true → NoEnds (h ∷ t) → BeginsPiece rs → OtherFirst rs → AtRest body []
@@ -172,10 +164,6 @@ at_first_piece body rs r h t bu e is goes begins quiet has =
 
 -- ---- where a picture follows that is no second field
 
-first_shown : (v : List ℕ) (vs : Units) → is_picture v ≡ true → first_field (coded_pictures (v ∷ vs)) ≡ field_by (next_unit vs)
-unfolding coded_pictures
-first_shown v vs on = rw on refl
-
 no_field : (o : Option FirstField) (w : ℕ) (vs mid : Units) (st : State) (info : PictureInfo) (extension : PictureExtension) → st.waiting ≡ o → Waits w o → PictureThere st vs mid info extension → second_by w (field_by (next_unit vs)) ≡ false → none_waits o ≡ true
 no_field None w vs mid st info extension e h t off = refl
 no_field (Some f) w vs mid st info extension e h t off =
@@ -198,7 +186,7 @@ rest_picture body rs r w v vs bu a begins goes on off =
     let part = part_of a.state v vs f.mid f.p (inl a.known) f.read in
     let x = part_picture a.state v vs f.mid f.p on part in
     let t = picture_there a.state v vs f.mid x.0 x.1 a.known on (subst (λ (y : Part). unit_read a.state (v ∷ vs) ≡ good ((true, y), f.mid)) x.2 f.read) in
-    let second : second_by w (field_by (next_unit vs)) ≡ false = ap (second_by w) (sym (first_shown v vs on)) ∙ off in
+    let second : second_by w (field_by (next_unit vs)) ≡ false = ap (second_by w) (sym (ap first_field (shown_first v vs on))) ∙ off in
     rest_by body rs r w ((v ∷ vs) ++ bu) a (no_field (a.state).waiting w vs f.mid a.state x.0 x.1 refl a.waits t second)
 
 -- ---- where a span begins

@@ -2,6 +2,7 @@
 use Rattle.std.proofs.Common.{◌≡◌, inl, inr, ℕ, suc, ◌+◌, ◌*◌, ◌≤◌, Bool, true, false, cond, List, [], ◌∷◌, ◌++◌, length, Option, Ok, Err, refl, sym, ap, subst, ◌∙◌, arith}
 use Rattle.std.specs.Prelude.{not, ◌&&◌, ◌||◌, if◌then◌else◌}
 use Rattle.std.proofs.lemmas.Bool.{eqb-true}
+use Rattle.std.proofs.Math.Bool.{and_assoc}
 use Rattle.m2v_model.specs.declared.fault.FaultKind.{FaultKind}
 use Rattle.m2v_model.specs.declared.fault.FaultKind.TheVariants.{FieldPair}
 use Rattle.m2v_model.specs.declared.state.Sequence.{Sequence}
@@ -14,28 +15,21 @@ use Rattle.m2v_model.specs.ByPieces.{Between, Course, at_start, behind, units_re
 use Rattle.m2v_model.proofs.CutLaws.{cut_units, joined-append}
 use Rattle.m2v_model.proofs.ShiftLaws.{BeginsPiece, NoEnds}
 use Rattle.m2v_model.proofs.SplitLaws.{behind_none, split, splits}
+use Rattle.m2v_model.proofs.PieceLaws.{no_ends-append}
 use Rattle.m2v_law_group.specs.Groups.{is_sequence}
 use Rattle.m2v_law_group.specs.Chosen.{anchors_behind}
 use Rattle.m2v_law_group.proofs.Texts.{code_bytes}
-use Rattle.m2v_law_seam.specs.Strands.{is_read, pictures_of, first_in, begins_sequence, has_end, last_open, reads, keeps_rule, may_stand, all_stand, agrees, is_strand}
+use Rattle.m2v_law_group.proofs.Lists.{or_parts}
+use Rattle.m2v_law_seam.specs.Strands.{is_read, pictures_of, first_in, begins_sequence, has_end, last_open, keeps_rule, may_stand, all_stand, agrees, is_strand}
 use Rattle.m2v_law_seam.specs.Strands as strands
 use Rattle.m2v_law_seam.specs.Faults.{standing}
 use Rattle.m2v_law_seam.specs.Spans.{units_of}
 use Rattle.m2v_law_seam.specs.Reading.{ended_read, is_strand_read, ByUnits, BeginsSequence, BeginsOnePiece, CanGrow, HasRead, anchors_after}
-use Rattle.m2v_law_seam.proofs.Strand.{StrandUnits, strand_units}
+use Rattle.m2v_law_seam.proofs.Strand.{StrandUnits, strand_units, own_units}
 use Rattle.m2v_law_seam.proofs.Edited.{behind_units}
-use Rattle.m2v_law_seam.proofs.Reading.{read_ended, both_go}
+use Rattle.m2v_law_seam.proofs.Reading.{alone_by}
 
 -- ---- by its units
-
-alone_by : (bytes : List ℕ) (x : StrandUnits bytes) → strands.read_of bytes ≡ ended_read (8 * length bytes) (units_read at_start (cut 0 bytes).1)
-alone_by bytes x =
-    let own = x.h ∷ x.pm in
-    let mine : (cut 0 bytes).1 ≡ own = ap (λ (l : List ℕ). (cut 0 l).1) x.whole ∙ cut_units own x.are in
-    ap strands.read_of x.whole
-    ∙ read_ended x.h x.pm x.ended x.is x.goes
-    ∙ ap (λ (l : List ℕ). ended_read (8 * length l) (units_read at_start own)) (sym x.whole)
-    ∙ ap (λ (l : Units). ended_read (8 * length bytes) (units_read at_start l)) (sym mine)
 
 -- what is read of bytes that begin with a sequence header, whether or not they read
 pub read_alone : (bytes : List ℕ) → begins_sequence bytes ≡ true → has_end (cut 0 bytes).1 ≡ false → last_open (cut 0 bytes).1 ≡ false → strands.read_of bytes ≡ ended_read (8 * length bytes) (units_read at_start (cut 0 bytes).1)
@@ -53,9 +47,6 @@ ended_ok opening first n x false = refl
 ended_strand : (opening : Bool) (first : Option Sequence) (n : ℕ) (r : Course) → is_strand_of opening first (ended_read n r) ≡ is_strand_read opening first r
 ended_strand opening first n (Ok x) = ended_ok opening first n x (none_waits (x.1).state.waiting)
 ended_strand opening first n (Err f) = refl
-
-and_twice : (a b : Bool) → ((true && (true && (true && a))) && b) ≡ (a && b)
-and_twice a b = refl
 
 reads_by : (b n l r s : Bool) → b ≡ true → n ≡ false → ((b && (not n && (not l && r))) && s) ≡ (not l && (r && s))
 reads_by true false true r s e f = refl
@@ -81,23 +72,15 @@ by_units bytes begins no_end = record { read = read_alone bytes begins no_end; s
 
 -- ---- units behind others
 
-end_append : (us vs : Units) → has_end us ≡ false → has_end vs ≡ false → has_end (us ++ vs) ≡ false
+pub end_append : (us vs : Units) → has_end us ≡ false → has_end vs ≡ false → has_end (us ++ vs) ≡ false
 unfolding has_end
 end_append [] vs a b = b
-end_append (u ∷ us) vs a b = end_step (is_end (value_of u)) (has_end us) (has_end (us ++ vs)) a (λ e. end_append us vs e b)
-  where
-    end_step : (x y z : Bool) → (x || y) ≡ false → (y ≡ false → z ≡ false) → (x || z) ≡ false
-    end_step true y z e f = absurd cc
-    end_step false y z e f = f e
+end_append (u ∷ us) vs a b = let p = or_parts (is_end (value_of u)) (has_end us) a in rw (p.0) (end_append us vs p.1 b)
 
-end_before : (us vs : Units) → has_end (us ++ vs) ≡ false → (has_end us ≡ false) × (has_end vs ≡ false)
+pub end_before : (us vs : Units) → has_end (us ++ vs) ≡ false → (has_end us ≡ false) × (has_end vs ≡ false)
 unfolding has_end
 end_before [] vs h = (refl, h)
-end_before (u ∷ us) vs h = end_parts (is_end (value_of u)) (has_end us) (has_end (us ++ vs)) h (λ e. end_before us vs e)
-  where
-    end_parts : (x y z : Bool) → (x || z) ≡ false → (z ≡ false → (y ≡ false) × (has_end vs ≡ false)) → ((x || y) ≡ false) × (has_end vs ≡ false)
-    end_parts true y z e f = absurd cc
-    end_parts false y z e f = f e
+end_before (u ∷ us) vs h = let p = or_parts (is_end (value_of u)) (has_end (us ++ vs)) h in let i = end_before us vs p.1 in (rw (p.0) i.0, i.1)
 
 pub open_behind : (us : Units) (v : List ℕ) (vs : Units) → last_open (us ++ v ∷ vs) ≡ last_open (v ∷ vs)
 unfolding last_open
@@ -141,7 +124,7 @@ grown_none v vs are none is =
 grown_some : (bytes : List ℕ) (x : StrandUnits bytes) (v : List ℕ) (vs : Units) → begins_sequence bytes ≡ true → has_end (cut 0 bytes).1 ≡ false → AreUnits (v ∷ vs) → has_end (v ∷ vs) ≡ false → Grown bytes v vs
 grown_some bytes x v vs begins no_end are none =
     let own = x.h ∷ x.pm in
-    let mine : (cut 0 bytes).1 ≡ own = ap (λ (l : List ℕ). (cut 0 l).1) x.whole ∙ cut_units own x.are in
+    let mine = own_units bytes x in
     let all : AreUnits (own ++ v ∷ vs) = behind_units own v vs x.ended are in
     let whole : bytes ++ joined (v ∷ vs) ≡ joined (own ++ v ∷ vs) = ap (λ (l : List ℕ). l ++ joined (v ∷ vs)) x.whole ∙ sym (joined-append own (v ∷ vs)) in
     let units : units_of (bytes ++ joined (v ∷ vs)) ≡ units_of bytes ++ v ∷ vs = ap (λ (l : List ℕ). (cut 0 l).1) whole ∙ cut_units (own ++ v ∷ vs) all ∙ ap (λ (l : Units). l ++ v ∷ vs) (sym mine) in
@@ -185,7 +168,7 @@ split_at (u ∷ us) vs is none begins = (splits at_start (u ∷ us) vs begins no
 pub fault_on : (us : Units) (es : Events) (b : Between) (v : List ℕ) (vs ws : Units) (f : FaultKind × ℕ) → HasRead us es b → NoEnds us → NoEnds (v ∷ vs) → begins_piece (value_of v) ≡ true → BeginsPiece ws → (us ≡ [] → is_sequence v ≡ true)
     → units_read b (v ∷ vs) ≡ Err f → units_read at_start ((us ++ v ∷ vs) ++ ws) ≡ Err (f.0, f.1 + unit_bits ws)
 fault_on us es b v vs ws f h none own begins later first e =
-    split_at (us ++ v ∷ vs) ws (first_known us es b v vs h first) (both_go us (v ∷ vs) none own) later
+    split_at (us ++ v ∷ vs) ws (first_known us es b v vs h first) (no_ends-append us (v ∷ vs) none own) later
     ∙ ap (split ws) (read_on us es b (v ∷ vs) h none begins ∙ ap (behind es) e)
 
 -- ---- the rule
@@ -194,14 +177,10 @@ pub anchors_append : (n : ℕ) (ps qs : Pictures) → anchors_after n (ps ++ qs)
 anchors_append n [] qs = refl
 anchors_append n (p ∷ ps) qs = anchors_append (anchors_behind n p) ps qs
 
-and_assoc : (a b c : Bool) → (a && (b && c)) ≡ ((a && b) && c)
-and_assoc true b c = refl
-and_assoc false b c = refl
-
 pub stand_append : (n : ℕ) (ps qs : Pictures) → all_stand n (ps ++ qs) ≡ (all_stand n ps && all_stand (anchors_after n ps) qs)
 unfolding all_stand
 stand_append n [] qs = refl
-stand_append n (p ∷ ps) qs = ap (λ (b : Bool). may_stand n p && b) (stand_append (anchors_behind n p) ps qs) ∙ and_assoc (may_stand n p) (all_stand (anchors_behind n p) ps) (all_stand (anchors_after (anchors_behind n p) ps) qs)
+stand_append n (p ∷ ps) qs = ap (λ (b : Bool). may_stand n p && b) (stand_append (anchors_behind n p) ps qs) ∙ sym (and_assoc (may_stand n p) (all_stand (anchors_behind n p) ps) (all_stand (anchors_after (anchors_behind n p) ps) qs))
 
 -- how many stand, where all of the first ones do, and where not
 pub standing_all : (n : ℕ) (ps qs : Pictures) → all_stand n ps ≡ true → standing n (ps ++ qs) ≡ length ps + standing (anchors_after n ps) qs

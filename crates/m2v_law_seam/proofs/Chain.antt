@@ -1,8 +1,8 @@
 -- Strands that read, agree, and but for the first one keep the rule: with one end code they show what each shows by itself.
 use Rattle.std.proofs.Common.{◌≡◌, ℕ, Bool, true, false, List, [], ◌∷◌, ◌++◌, length, Option, Some, Ok, Err, refl, sym, ap, subst, ◌∙◌, append_assoc, append-nil}
-use Rattle.std.specs.Prelude.{nat_eq, not, ◌&&◌}
+use Rattle.std.specs.Prelude.{nat_eq, not}
 use Rattle.std.specs.Bool.{beq}
-use Rattle.std.proofs.lemmas.Bool.{eqb-true, eq-eqb}
+use Rattle.std.proofs.lemmas.Bool.{eqb-true, eq-eqb, not-true}
 use Rattle.m2v_model.specs.declared.state.Sequence.{Sequence}
 use Rattle.m2v_model.specs.Units.{cut, joined}
 use Rattle.m2v_model.specs.States as states
@@ -13,11 +13,11 @@ use Rattle.m2v_model.specs.ByPieces.{Between, Course, text_read}
 use Rattle.m2v_model.proofs.PieceLaws.{by_pieces}
 use Rattle.m2v_law_group.specs.Groups.{end_code}
 use Rattle.m2v_law_group.proofs.Lists.{and_parts}
-use Rattle.m2v_law_seam.specs.Strands.{is_read, pictures_of, first_in, frames_in, all_fit, begins_sequence, has_end, last_open, reads, keeps_rule, are_joint, agrees}
+use Rattle.m2v_law_seam.specs.Strands.{is_read, pictures_of, first_in, frames_in, begins_sequence, has_end, last_open, reads, keeps_rule, are_joint, agrees}
 use Rattle.m2v_law_seam.specs.Strands as strands
 use Rattle.m2v_law_seam.specs.Mends.{AllDecode, in_turn}
 use Rattle.m2v_law_seam.proofs.Strand.{StrandUnits, strand_units, strand_read}
-use Rattle.m2v_law_seam.proofs.Joint.{joint_units, joint_read}
+use Rattle.m2v_law_seam.proofs.Joint.{joint_units, joint_read, bool_is}
 
 -- ---- what reads is a stream
 
@@ -29,10 +29,6 @@ pub record ReadsAs (bytes : List ℕ) : Type 0 where
   pub first : tree.state.first ≡ Some s
   pub first_is : first_in (strands.read_of bytes) ≡ Some s
   pub pictures_are : pictures_of (strands.read_of bytes) ≡ pictures tree
-
-not_true : (b : Bool) → not b ≡ true → b ≡ false
-not_true true e = absurd cc
-not_true false e = refl
 
 reads_by : (bytes : List ℕ) (u : StrandUnits bytes) (r : Course) → text_read (bytes ++ end_code) ≡ r → is_read r ≡ true → ReadsAs bytes
 reads_by bytes u (Ok (es, b)) e h =
@@ -55,7 +51,7 @@ reads_as bytes h =
     let a = and_parts (begins_sequence bytes) _ h in
     let b = and_parts (not (has_end (cut 0 bytes).1)) _ a.1 in
     let c = and_parts (not (last_open (cut 0 bytes).1)) (is_read (strands.read_of bytes)) b.1 in
-    let u = strand_units bytes a.0 (not_true (has_end (cut 0 bytes).1) b.0) (not_true (last_open (cut 0 bytes).1) c.0) in
+    let u = strand_units bytes a.0 (not-true (has_end (cut 0 bytes).1) b.0) (not-true (last_open (cut 0 bytes).1) c.0) in
     reads_by bytes u (text_read (bytes ++ end_code)) refl c.1
 
 -- as many frames are counted of it as it shows
@@ -65,9 +61,6 @@ frames_counted bytes r =
     ∙ ap (λ (ps : Pictures). length (shown (low_delay_of (r.tree).state.first) ps)) r.pictures_are
 
 -- ---- agreement goes both ways, and on
-
-both_true : (a b : Bool) → a ≡ true → b ≡ true → (a && b) ≡ true
-both_true a b p q = rw (p, q) refl
 
 pub record Agree (f s : Sequence) : Type 0 where
   pub width : nat_eq (states.width_of f) (states.width_of s) ≡ true
@@ -97,10 +90,7 @@ nat_back : (a b c : ℕ) → nat_eq a b ≡ true → nat_eq a c ≡ true → nat
 nat_back a b c e f = subst (λ (n : ℕ). nat_eq n c ≡ true) (eqb-true a b e) f
 
 bool_back : (a b c : Bool) → beq a b ≡ true → beq a c ≡ true → beq b c ≡ true
-bool_back true true c e f = f
-bool_back false false c e f = f
-bool_back true false c e f = absurd cc
-bool_back false true c e f = absurd cc
+bool_back a b c e f = subst (λ (x : Bool). beq x c ≡ true) (bool_is a b e) f
 
 -- headers that agree with one agree with each other
 pub agree_back : (f s x : Sequence) → are_joint f s ≡ true → are_joint f x ≡ true → are_joint s x ≡ true

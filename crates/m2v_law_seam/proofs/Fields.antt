@@ -1,7 +1,7 @@
 -- The first field that waits, by the bits of the pieces that were read and by their reading.
 use Rattle.std.proofs.Common.{◌≡◌, ℕ, zero, suc, Bool, true, false, List, [], ◌∷◌, Option, Some, None, ◌⊎◌, inl, inr, refl, sym, ap, subst, ◌∙◌, arith}
 use Rattle.std.specs.Prelude.{nat_eq, nat_le, is_some, not, ◌&&◌, ◌||◌, if◌then◌else◌}
-use Rattle.std.proofs.lemmas.Bool.{both_ways, eqb-true, le-leb}
+use Rattle.std.proofs.lemmas.Bool.{both_ways, eqb-true, le-leb, not-true}
 use Rattle.m2v_bits.specs.Syntax.{seq, done, here, rule, choose}
 use Rattle.m2v_bits.proofs.SyntaxLaws.{good}
 use Rattle.m2v_model.specs.m2v_macroblock.m2v_head.declared.picture.PictureInfo.{PictureInfo}
@@ -115,12 +115,8 @@ pub second_is : (w : ℕ) (f : FirstField) (info : PictureInfo) (extension : Pic
 second_is w f info extension same some own due =
     let a = and_parts (not (is_frame extension)) _ due in
     let b = and_parts (not (nat_eq extension.structure f.structure)) (may_follow f.kind info.kind) a.1 in
-    let other : nat_eq extension.structure w ≡ false = ap (nat_eq extension.structure) same ∙ not_true (nat_eq extension.structure f.structure) b.0 in
-    (not_true (is_frame extension) a.0, rw (some, some_at_least extension.structure own, other) refl)
-  where
-    not_true : (b : Bool) → not b ≡ true → b ≡ false
-    not_true true e = absurd cc
-    not_true false e = refl
+    let other : nat_eq extension.structure w ≡ false = ap (nat_eq extension.structure) same ∙ not-true (nat_eq extension.structure f.structure) b.0 in
+    (not-true (is_frame extension) a.0, rw (some, some_at_least extension.structure own, other) refl)
 
 first_waits : (w : ℕ) (info : PictureInfo) (extension : PictureExtension) (v : List ℕ) (frame : Bool) → is_frame extension ≡ frame → w ≡ 0 → nat_eq extension.structure 0 ≡ false → field_by v ≡ (if frame then 0 else extension.structure) → Waits (next_waits w (field_by v)) (waiting_by (is_frame extension || false) info extension)
 first_waits w info extension v true e none some field = rw (e, none, field) refl
@@ -169,11 +165,11 @@ behind_picture stop k q = refl
 behind_picture {st} {us = []} (step {mid = mid} {p = p} e later) k q = none_more st p mid e
 behind_picture {st} {z} {us = u ∷ us} (step {mid = mid} {p = p} e later) k q = behind_step st z u us mid p (part_of st u us mid p (inl k) e) q (λ r. behind_picture later (known_after st p k) r)
 
-plain_first : (u : List ℕ) (us : Units) → is_picture u ≡ false → (coded_pictures (u ∷ us) ≡ coded_pictures us) × (has_picture (u ∷ us) ≡ has_picture us)
+pub plain_first : (u : List ℕ) (us : Units) → is_picture u ≡ false → (coded_pictures (u ∷ us) ≡ coded_pictures us) × (has_picture (u ∷ us) ≡ has_picture us)
 unfolding coded_pictures has_picture
 plain_first u us off = (rw off refl, rw off refl)
 
-shown_first : (u : List ℕ) (us : Units) → is_picture u ≡ true → coded_pictures (u ∷ us) ≡ (u, next_unit us) ∷ coded_pictures us
+pub shown_first : (u : List ℕ) (us : Units) → is_picture u ≡ true → coded_pictures (u ∷ us) ≡ (u, next_unit us) ∷ coded_pictures us
 unfolding coded_pictures
 shown_first u us on = rw on refl
 
@@ -246,6 +242,10 @@ abbrev pub KnownFirst : State → Units → Type 0
 KnownFirst st [] = Unit {0}
 KnownFirst st (u ∷ us) = (IsKnown st) ⊎ (is_sequence u ≡ true)
 
+pub known_first : (st : State) (us : Units) → IsKnown st → KnownFirst st us
+known_first st [] k = tt
+known_first st (u ∷ us) k = inl k
+
 picture_known : (st : State) (u : List ℕ) → (IsKnown st) ⊎ (is_sequence u ≡ true) → is_picture u ≡ true → IsKnown st
 picture_known st u (inl k) on = k
 picture_known st u (inr is) on = absurd (both_ways (is_picture u) (ap (λ (n : ℕ). nat_eq n 0x00) (eqb-true (value_of u) 0xB3 is)) on)
@@ -266,7 +266,3 @@ piece_waits {st} {z} {us = u ∷ us} (step {mid = mid} {p = p} e later) none w k
     let part = part_of st u us mid p k e in
     let known = known_on st u us mid p k part in
     piece_step w st z u us mid p part q h waits (there_by st u us mid p k part e) (λ r. behind_picture later known r) (λ r has now. piece_waits later none w (known_first (after st p) mid known) r has now)
-  where
-    known_first : (st : State) (us : Units) → IsKnown st → KnownFirst st us
-    known_first st [] k = tt
-    known_first st (u ∷ us) k = inl k

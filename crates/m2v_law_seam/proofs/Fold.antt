@@ -216,7 +216,7 @@ strands_mended f s ss k r =
       units = c.units;
     }
 
-text_of : (s : List ℕ) (ss : List (List ℕ)) (bytes : List ℕ) → ended_text (s ∷ ss) ≡ Some bytes → joined (s ∷ ss) ++ end_code ≡ bytes
+pub text_of : (s : List ℕ) (ss : List (List ℕ)) (bytes : List ℕ) → ended_text (s ∷ ss) ≡ Some bytes → joined (s ∷ ss) ++ end_code ≡ bytes
 text_of s ss bytes e = cc
 
 strands_by : (f : Option Sequence) (s : List ℕ) (ss : List (List ℕ)) → AllKept f (s ∷ ss) → OthersRuled (s ∷ ss) → (f ≡ None → s ∷ ss ≡ []) → IsMended (s ∷ ss)

@@ -7,13 +7,11 @@ use Rattle.m2v_model.specs.Units.{Units, begins_code, cut, joined, Clear, AreUni
 use Rattle.m2v_model.specs.States.{at_first, none_waits}
 use Rattle.m2v_model.specs.Streams.{Part, Sofar, sequence, ending, after}
 use Rattle.m2v_model.specs.Decoding.{Stream, frames_of}
-use Rattle.m2v_model.specs.Pieces.{begins_piece}
 use Rattle.m2v_model.specs.ByPieces.{Course, text_read}
 use Rattle.m2v_model.proofs.CutLaws.{cut_units}
 use Rattle.m2v_model.proofs.PieceLaws.{by_pieces}
 use Rattle.m2v_model.proofs.Unique.{exactly_one}
 use Rattle.m2v_model.proofs.ShiftLaws.{BeginsPiece, NoEnds}
-use Rattle.m2v_model.proofs.SplitLaws.{IsKnown}
 use Rattle.m2v_law_group.specs.Groups.{is_sequence, end_code}
 use Rattle.m2v_law_group.proofs.Runs.{Run, Ends, split, run_before, rounds_by, last_round}
 use Rattle.m2v_law_group.proofs.Texts.{are_swapped, code_bytes, code_are}
@@ -21,9 +19,11 @@ use Rattle.m2v_law_group.proofs.Texts as texts
 use Rattle.m2v_law_group.proofs.Tens.{first_kept, run_known}
 use Rattle.m2v_law_group.proofs.Start.{sequence_start, complete_there, end_read}
 use Rattle.m2v_law_group.proofs.Core.{first_read, stream_by}
-use Rattle.m2v_law_seam.specs.Strands.{is_read, first_in, begins_sequence, has_end, is_prefix, ends_open, last_open, reads}
+use Rattle.m2v_law_seam.specs.Strands.{is_read, first_in, begins_sequence, has_end, ends_open, last_open, reads}
 use Rattle.m2v_law_seam.specs.Strands as strands
+use Rattle.m2v_law_seam.proofs.Strand.{code_begins, known_behind, first_behind}
 use Rattle.m2v_law_seam.proofs.Chain.{reads_as}
+use Rattle.m2v_law_seam.proofs.Joint.{ending_numbers}
 
 -- ---- units before others
 
@@ -91,26 +91,6 @@ Rests us = (ps : List Part) (z : State) → Run at_first us ps z [] → none_wai
 
 -- ---- it is a stream
 
-code_begins : BeginsPiece (end_code ∷ [])
-unfolding begins_piece
-code_begins = refl
-
-sequence_behind : (s : Sequence) → IsKnown (after at_first (sequence s))
-unfolding after
-sequence_behind s = refl
-
-ending_waits : (st : State) → (after st ending).waiting ≡ st.waiting
-unfolding after
-ending_waits st = refl
-
-ending_first : (st : State) → (after st ending).first ≡ st.first
-unfolding after
-ending_first st = refl
-
-sequence_first : (s : Sequence) → (after at_first (sequence s)).first ≡ Some s
-unfolding after
-sequence_first s = refl
-
 -- the front's tree
 record FrontStream (h : List ℕ) (pm : Units) (parts : List Part) : Type 0 where
   tree : Sofar
@@ -126,7 +106,7 @@ front_stream h pm bu r is goes begins rests are =
     let f = first_read at_first i.between h pm i.mine i.run in
     let q = sequence_start at_first h pm f.mid f.p is f.read in
     let run : Run (after at_first (sequence q.s)) f.mid f.later i.between [] = subst (λ (y : Part). Run (after at_first y) f.mid f.later i.between []) q.part f.run in
-    let known = run_known run (sequence_behind q.s) in
+    let known = run_known run (known_behind at_first q.s) in
     let complete = complete_there i.later begins known in
     let paired = rests i.mine i.between i.run in
     let z = i.between in
@@ -137,11 +117,11 @@ front_stream h pm bu r is goes begins rests are =
     let mine : i.mine ≡ sequence q.s ∷ f.later = f.parts ∙ ap (λ (y : Part). y ∷ f.later) q.part in
     record {
       tree = tree;
-      stream = record { front = []; units = (h ∷ pm) ++ code; rest = []; cuts = texts.cut_cuts (h ∷ pm) are; stands = stream_by tree ((h ∷ pm) ++ code) [] rounds (ap none_waits (ending_waits z) ∙ paired) };
+      stream = record { front = []; units = (h ∷ pm) ++ code; rest = []; cuts = texts.cut_cuts (h ∷ pm) are; stands = stream_by tree ((h ∷ pm) ++ code) [] rounds (ap none_waits (ending_numbers z).0 ∙ paired) };
       s = q.s;
       others = f.later ++ i.others;
       begins = i.parts ∙ ap (λ (l : List Part). l ++ i.others) mine;
-      first = ending_first z ∙ first_kept run q.s (sequence_first q.s);
+      first = (ending_numbers z).1 ∙ first_kept run q.s (first_behind q.s);
     }
 
 -- ---- so it reads
@@ -153,7 +133,7 @@ read_good text tree s (Err (kind, place)) e = absurd ((exactly_one text).not_bot
 pub stream_reads : (text : List ℕ) (tree : Sofar) → Stream text tree → is_read (text_read text) ≡ true
 stream_reads text tree s = read_good text tree s (text_read text) refl
 
-none_end : (us : Units) → NoEnds us → has_end us ≡ false
+pub none_end : (us : Units) → NoEnds us → has_end us ≡ false
 unfolding has_end
 none_end [] n = refl
 none_end (u ∷ us) n = rw (n.0) (none_end us n.1)

@@ -129,7 +129,7 @@ no_first : (us : Units) (b : Bool) → (if b then 1 else 0) + picture_count us �
 no_first us true e h = absurd (omega (arith, e))
 no_first us false e h = h (omega (arith, e))
 
-no_picture : (us : Units) → picture_count us ≡ 0 → has_picture us ≡ false
+pub no_picture : (us : Units) → picture_count us ≡ 0 → has_picture us ≡ false
 unfolding picture_count has_picture
 no_picture [] e = refl
 no_picture (u ∷ us) e = no_first us (is_picture u) e (no_picture us)

@@ -3,6 +3,7 @@ use Rattle.std.proofs.Common.{◌≡◌, ℕ, Bool, true, false, List, [], ◌�
 use Rattle.std.specs.Prelude.{nat_eq, ◌&&◌}
 use Rattle.std.specs.Bool.{beq}
 use Rattle.std.proofs.lemmas.Bool.{eqb-true}
+use Rattle.std.proofs.lemmas.Option.{same_Some}
 use Rattle.m2v_bits.specs.Syntax.{seq, done, rule}
 use Rattle.m2v_bits.proofs.SyntaxLaws.{good}
 use Rattle.m2v_model.specs.declared.state.Sequence.{Sequence}
@@ -18,8 +19,8 @@ use Rattle.m2v_model.specs.ByPieces.{unit_read}
 use Rattle.m2v_model.proofs.StreamLaws.{known_lawful}
 use Rattle.m2v_model.proofs.CutLaws.{joined-append, are_before}
 use Rattle.m2v_model.proofs.EventLaws.{pictures_in-append}
-use Rattle.m2v_model.proofs.ShiftLaws.{BeginsPiece, NoEnds}
 use Rattle.m2v_model.proofs.SplitLaws.{IsKnown}
+use Rattle.m2v_model.proofs.PieceLaws.{no_ends-append}
 use Rattle.m2v_law_group.specs.Groups.{is_sequence, end_code}
 use Rattle.m2v_law_group.proofs.Held.{closed_beside}
 use Rattle.m2v_law_group.proofs.Lists.{and_parts}
@@ -35,14 +36,14 @@ use Rattle.m2v_law_seam.proofs.Behind.{AreSeamed, none_yet}
 use Rattle.m2v_law_seam.proofs.Again.{AllStand, stand_front, RunsAgain, runs_again}
 use Rattle.m2v_law_seam.proofs.Orders.{shown_append}
 use Rattle.m2v_law_seam.proofs.Rules.{stand_parts, beside_same}
-use Rattle.m2v_law_seam.proofs.Strand.{StrandUnits, strand_units, StrandRead, strand_read, strand_pictures}
+use Rattle.m2v_law_seam.proofs.Strand.{StrandUnits, strand_units, StrandRead, strand_read, strand_pictures, known_behind, code_begins}
 
 -- ---- headers that agree
 
 nat_on : (a b c : ℕ) → nat_eq a b ≡ true → nat_eq b c ≡ true → nat_eq a c ≡ true
 nat_on a b c e f = subst (λ (n : ℕ). nat_eq n c ≡ true) (sym (eqb-true a b e)) f
 
-bool_is : (a b : Bool) → beq a b ≡ true → a ≡ b
+pub bool_is : (a b : Bool) → beq a b ≡ true → a ≡ b
 bool_is true true e = refl
 bool_is false false e = refl
 bool_is true false e = absurd cc
@@ -142,10 +143,6 @@ record SecondRead (first second : Sofar) (ha hb : List ℕ) (pa pb : Units) (x :
       ++ pictures_in (closed state.picture (store_from (after x.between (sequence y.s)) (picture_ended (x.between).picture (store_from at_first no_frames (sequence x.s ∷ x.later))) y.later))
       ≡ pictures second
 
-sequence_known : (s : Sequence) (st : State) → IsKnown (after st (sequence s))
-unfolding after
-sequence_known s st = refl
-
 start_numbers : (s : Sequence) → ((after at_first (sequence s)).anchors ≡ 0) × ((after at_first (sequence s)).waiting ≡ None)
 unfolding after
 start_numbers s = (refl, refl)
@@ -202,7 +199,7 @@ second_read first second ha hb pa pb x y is rule joint =
     record {
       state = i.state;
       run = step read i.run;
-      known = run_known i.run (sequence_known y.s a);
+      known = run_known i.run (known_behind a y.s);
       complete = ap (λ (o : Option Sequence). is_complete o (i.state).picture) (both.alike).sequence ∙ ap (is_complete (y.between).sequence) both.same ∙ y.complete;
       paired = ap none_waits (both.alike).waiting ∙ y.paired;
       first_is = both.whole;
@@ -211,13 +208,9 @@ second_read first second ha hb pa pb x y is rule joint =
 
 -- ---- both strands
 
-code_begins : BeginsPiece (end_code ∷ [])
+pub sequence_begins : (u : List ℕ) → is_sequence u ≡ true → begins_piece (value_of u) ≡ true
 unfolding begins_piece
-code_begins = refl
-
-unit_begins : (u : List ℕ) (us : Units) → is_sequence u ≡ true → BeginsPiece (u ∷ us)
-unfolding begins_piece
-unit_begins u us is = rw (eqb-true (value_of u) 0xB3 is) refl
+sequence_begins u is = rw (eqb-true (value_of u) 0xB3 is) refl
 
 -- they are units, one behind the other
 both_units : (a b : List ℕ) (x : StrandUnits a) (y : StrandUnits b) → Cuts ((a ++ b) ++ end_code) [] ((x.h ∷ x.pm) ++ ((y.h ∷ y.pm) ++ end_code ∷ []))
@@ -276,7 +269,7 @@ both_pictures first second ha hb pa pb x y r =
     ∙ sym (append_assoc es cs (pictures second))
     ∙ ap (λ (l : Pictures). l ++ pictures second) (sym (strand_pictures first ha pa x))
 
-ending_numbers : (st : State) → ((after st ending).waiting ≡ st.waiting) × ((after st ending).first ≡ st.first)
+pub ending_numbers : (st : State) → ((after st ending).waiting ≡ st.waiting) × ((after st ending).first ≡ st.first)
 unfolding after
 ending_numbers st = (refl, refl)
 
@@ -295,10 +288,6 @@ frames_by first second tree f s ef es et low told rule =
     ∙ sym all
 
 -- both strands are units with an end code behind them
-no_ends_both : (us vs : Units) → NoEnds us → NoEnds vs → NoEnds (us ++ vs)
-no_ends_both [] vs n m = m
-no_ends_both (u ∷ us) vs n m = (n.0, no_ends_both us vs n.1 m)
-
 pub joint_units : (a b : List ℕ) → StrandUnits a → StrandUnits b → StrandUnits (a ++ b)
 joint_units a b u v =
     let ua = u.h ∷ u.pm in
@@ -311,7 +300,7 @@ joint_units a b u v =
       are = are_before (ua ++ ub) (end_code ∷ []) all;
       ended = all;
       is = u.is;
-      goes = no_ends_both ua ub u.goes v.goes;
+      goes = no_ends-append ua ub u.goes v.goes;
       begins = record { rest = (u.begins).rest ++ b; is = ap (λ (l : List ℕ). l ++ b) (u.begins).is };
     }
 
@@ -331,7 +320,7 @@ joint_by_parts a b first second u v x y rule joint =
     let own = sequence y.s ∷ y.later in
     let code = end_code ∷ [] in
     let z = r.state in
-    let front : Run at_first (ua ++ (ub ++ code)) mine x.between (ub ++ code) = run_before (ub ++ code) (unit_begins v.h (v.pm ++ code) v.is) x.all in
+    let front : Run at_first (ua ++ (ub ++ code)) mine x.between (ub ++ code) = run_before (ub ++ code) (sequence_begins v.h v.is) x.all in
     let back : Run x.between (ub ++ code) own z code = run_before code code_begins r.run in
     let whole = run_then front back in
     let all = mine ++ own in
@@ -353,12 +342,9 @@ pub joint_read : (a b : List ℕ) (first second : Sofar) (f : Sequence) → Stra
 joint_read a b first second f u v p q is rule agree =
     let x = strand_read a first u p in
     let y = strand_read b second v q in
-    let own : x.s ≡ f = some_is x.s f (sym x.first_told ∙ is) in
+    let own : x.s ≡ f = same_Some x.s f (sym x.first_told ∙ is) in
     let joint = agreed first.state.first second.state.first x.s y.s x.first_told y.first_told (ap (λ (o : Option Sequence). agrees o second.state.first) is ∙ agree) in
     subst (JointRead a b first second) own (joint_by_parts a b first second u v x y rule joint)
-  where
-    some_is : (x y : Sequence) → Some x ≡ Some y → x ≡ y
-    some_is x y e = cc
 
 pub seam_law : (a b : List ℕ) → Seam a b
 seam_law a b first second p q rule agree =

@@ -1,5 +1,6 @@
 -- What is left out neither reads behind the strand that was under way nor begins another one.
 use Rattle.std.proofs.Common.{◌≡◌, ℕ, Bool, true, false, List, [], ◌∷◌, ◌++◌, length, Option, Some, None, inl, inr, refl, sym}
+use Rattle.std.proofs.lemmas.Option.{same_Some}
 use Rattle.std.specs.Prelude.{nat_eq, if◌then◌else◌}
 use Rattle.m2v_law_seam.specs.Spans.{Dividing, Span, spans_in}
 use Rattle.m2v_law_seam.specs.Seams.{leading}
@@ -37,9 +38,6 @@ leading_told steps gs frames s false t = more_told steps gs (leading_gap frames 
 
 -- ---- span by span
 
-some_is : (x y : Fault) → Some x ≡ Some y → x ≡ y
-some_is x y e = cc
-
 gap_told : (steps : Steps) (m : Mending) (s : Span) → Among (m, s) steps → goes_behind m s ≡ false → begins_strand m.first s ≡ false → IsTold steps (span_gap m s)
 gap_told steps m s among behind begun f e = record {
   before = m;
@@ -48,7 +46,7 @@ gap_told steps m s among behind begun f e = record {
   not_behind = behind;
   not_begun = begun;
   place = refl;
-  fault = some_is f (fault_of m.strand (low_of_span m s) m.first s) (sym e);
+  fault = same_Some f (fault_of m.strand (low_of_span m s) m.first s) (sym e);
 }
 
 span_told : (steps : Steps) (m : Mending) (s : Span) (g b : Bool) → goes_behind m s ≡ g → begins_strand m.first s ≡ b → Among (m, s) steps → GapsLeft steps m.gaps → GapsLeft steps (if g then put_behind m s else if b then strand_begun m s else left_out m s).gaps

@@ -1,5 +1,5 @@
 -- The numbers of the answer are those of the strands and of the input.
-use Rattle.std.proofs.Common.{◌≡◌, ℕ, ◌+◌, ◌-◌, ◌*◌, Bool, true, false, List, [], ◌∷◌, ◌++◌, length, Some, refl, sym, ap, subst, ◌∙◌, arith}
+use Rattle.std.proofs.Common.{◌≡◌, ℕ, ◌+◌, ◌-◌, ◌*◌, Bool, true, false, List, [], ◌∷◌, length, Some, refl, sym, ap, subst, ◌∙◌, arith}
 use Rattle.std.specs.Prelude.{nat_eq, if◌then◌else◌}
 use Rattle.std.proofs.lemmas.Bool.{eqb-true}
 use Rattle.std.proofs.lemmas.List.{length-append}
@@ -9,7 +9,8 @@ use Rattle.m2v_law_seam.specs.Spans.{units_of, units_in, picture_count, Dividing
 use Rattle.m2v_law_seam.specs.Mending.{nothing_yet, mending, strands, gaps_in, ended_text}
 use Rattle.m2v_law_seam.specs.Told.{all_groups, span_pictures, all_pictures, left_pictures, all_kept, some_kept, answer_by}
 use Rattle.m2v_law_seam.specs.Mends.{steps_of, all_pieces, without_ends, AreParts, neither, kept, left, AllThere, PicturesKept, SizeIs, IsTold, AnswerTells}
-use Rattle.m2v_law_seam.proofs.Told.{count_append, pictures_none, pictures_append, all_told}
+use Rattle.m2v_law_seam.proofs.Fold.{text_of}
+use Rattle.m2v_law_seam.proofs.Told.{count_append, pictures_none, pictures_append, all_told, pictures_of_pieces}
 use Rattle.m2v_law_seam.proofs.There.{span_pieces, stretch_all, all_steps, spans_keep, steps_keep}
 use Rattle.m2v_law_seam.proofs.InTurn.{all_there}
 use Rattle.m2v_law_seam.proofs.Groups.{groups_kept, groups_there, none_left}
@@ -17,14 +18,11 @@ use Rattle.m2v_law_seam.proofs.Kept.{spans_kept_pictures, steps_kept_pictures}
 
 -- ---- pictures of pieces
 
-abbrev pictures : List (List ℕ) → ℕ
-pictures ps = picture_count (units_in ps)
-
-pictures_first : (p : List ℕ) (ps : List (List ℕ)) → pictures (p ∷ ps) ≡ picture_count (units_of p) + pictures ps
+pictures_first : (p : List ℕ) (ps : List (List ℕ)) → pictures_of_pieces (p ∷ ps) ≡ picture_count (units_of p) + pictures_of_pieces ps
 unfolding units_in
 pictures_first p ps = count_append (units_of p) (units_in ps)
 
-parts_pictures : {ks ls all : List (List ℕ)} → AreParts ks ls all → pictures all ≡ pictures ks + pictures ls
+parts_pictures : {ks ls all : List (List ℕ)} → AreParts ks ls all → pictures_of_pieces all ≡ pictures_of_pieces ks + pictures_of_pieces ls
 parts_pictures neither = let z = pictures_none in omega (arith, z)
 parts_pictures (kept {ks = ks} {ls = ls} {all = all} {p = p} a) =
     let i = parts_pictures a in
@@ -37,12 +35,12 @@ parts_pictures (left {ks = ks} {ls = ls} {all = all} {p = p} a) =
     let y = pictures_first p all in
     omega (arith, i, x, y)
 
-span_total : (ss : List Span) → span_pictures ss ≡ pictures (span_pieces ss)
+span_total : (ss : List Span) → span_pictures ss ≡ pictures_of_pieces (span_pieces ss)
 unfolding span_pictures
 span_total [] = sym pictures_none
 span_total (s ∷ ss) = let i = span_total ss in let a = pictures_append s.pieces (span_pieces ss) in omega (arith, i, a)
 
-all_total : (more : List (List Span)) → all_pictures more ≡ pictures (stretch_all more)
+all_total : (more : List (List Span)) → all_pictures more ≡ pictures_of_pieces (stretch_all more)
 unfolding all_pictures
 all_total [] = sym pictures_none
 all_total (ss ∷ more) = let i = all_total more in let s = span_total ss in let a = pictures_append (span_pieces ss) (stretch_all more) in omega (arith, i, s, a)
@@ -52,13 +50,13 @@ all_total (ss ∷ more) = let i = all_total more in let s = span_total ss in let
 -- the pictures of the input, of the strands, and of the gaps
 record AllNumbers (divide : Dividing) (text : List ℕ) : Type 0 where
   all : all_pictures (spans_in divide text) ≡ picture_count (without_ends (cut 0 text).1)
-  sum : all_pictures (spans_in divide text) ≡ pictures (strands divide text) + left_pictures (gaps_in divide text)
+  sum : all_pictures (spans_in divide text) ≡ pictures_of_pieces (strands divide text) + left_pictures (gaps_in divide text)
 
 numbers : (divide : Dividing) (text : List ℕ) → AllThere divide text → PicturesKept divide text → AllNumbers divide text
 numbers divide text there strand =
     let t = all_told divide text in
     let whole = all_total (spans_in divide text) in
-    let same : pictures (stretch_all (spans_in divide text)) ≡ pictures (all_pieces (steps_of divide text)) = ap pictures (sym (all_steps (spans_in divide text) nothing_yet)) in
+    let same : pictures_of_pieces (stretch_all (spans_in divide text)) ≡ pictures_of_pieces (all_pieces (steps_of divide text)) = ap pictures_of_pieces (sym (all_steps (spans_in divide text) nothing_yet)) in
     let input = ap picture_count there.pieces in
     let parts = parts_pictures t.parts in
     let gaps = t.pictures in
@@ -68,9 +66,6 @@ size_of : (divide : Dividing) (text : List ℕ) (ds : List (List ℕ)) → stran
 size_of divide text ds e s ss is bytes m =
     let own : ended_text (s ∷ ss) ≡ Some bytes = ap ended_text (sym (e ∙ is)) ∙ m in
     ap (λ (l : List (List ℕ)). length (joined l) + length end_code) is ∙ sym (length-append (joined (s ∷ ss)) end_code) ∙ ap length (text_of s ss bytes own)
-  where
-    text_of : (s : List ℕ) (ss : List (List ℕ)) (bytes : List ℕ) → ended_text (s ∷ ss) ≡ Some bytes → joined (s ∷ ss) ++ end_code ≡ bytes
-    text_of s ss bytes e = cc
 
 kept_told : (divide : Dividing) (text : List ℕ) (n : AllNumbers divide text) (none : Bool) → nat_eq (left_pictures (gaps_in divide text)) 0 ≡ none → SizeIs divide text (length (joined (strands divide text)) + length end_code)
     → IsTold divide text (

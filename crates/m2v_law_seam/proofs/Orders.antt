@@ -1,13 +1,14 @@
 -- Display order of frames, and of others behind them: where these have no B frame before their first anchor, it is that of both,
 -- one behind the other.
-use Rattle.std.proofs.Common.{◌≡◌, ℕ, zero, suc, ◌+◌, Bool, true, false, List, [], ◌∷◌, ◌++◌, map, filter, length, refl, sym, ap, subst, ◌∙◌, append_assoc, append-nil, arith}
+use Rattle.std.proofs.Common.{◌≡◌, ℕ, zero, suc, ◌+◌, Bool, true, false, List, [], ◌∷◌, ◌++◌, filter, length, refl, sym, ap, subst, ◌∙◌, append_assoc, append-nil, arith}
 use Rattle.std.specs.Prelude.{if◌then◌else◌, not, ◌&&◌, ◌||◌, nat_eq}
 use Rattle.std.proofs.lemmas.List.Elements.{filter-append}
 use Rattle.std.proofs.lemmas.List.{map-append}
 use Rattle.m2v_order.specs.Display.{is_b, anchors, b_after, from_anchor, Order, is_kept, Shown}
 use Rattle.m2v_model.specs.States as states
-use Rattle.m2v_model.specs.Pictures.{Picture, Pictures, is_ending, typed, frames_in}
+use Rattle.m2v_model.specs.Pictures.{Picture, Pictures, frames_in}
 use Rattle.m2v_model.specs.Decoding.{is_dropped, raw_frames, shown}
+use Rattle.m2v_model.proofs.Fronts.{frames_in-append}
 use Rattle.m2v_law_group.specs.Chosen.{anchors_behind}
 use Rattle.m2v_law_group.proofs.Lists.{and_parts}
 use Rattle.m2v_law_seam.specs.Strands.{may_stand, all_stand}
@@ -143,9 +144,6 @@ module _ {F : Type 0} where
 pub shown_order : {F : Type 0} (dropped : F → Bool) (low : Bool) (fs gs : List (F × ℕ)) → b_after 0 gs ≡ [] → Shown dropped low (fs ++ gs) ≡ Shown dropped low fs ++ Shown dropped low gs
 shown_order dropped low fs gs none = ap (filter (is_kept dropped)) (order_append low fs gs none) ∙ filter-append (is_kept dropped) (Order low fs) (Order low gs)
 
-frames_append : (ps qs : Pictures) → frames_in (ps ++ qs) ≡ frames_in ps ++ frames_in qs
-frames_append ps qs = ap (map typed) (filter-append is_ending ps qs) ∙ map-append typed (filter is_ending ps) (filter is_ending qs)
-
 -- pictures of which no B picture stands before the first anchor
 first_step : (p : Picture) (ps : Pictures) (ends b : Bool) → p.ends_frame ≡ ends → states.is_b p.info.kind ≡ b → may_stand 0 p ≡ true → (ends ≡ false → b_after 0 (frames_in ps) ≡ []) → b_after 0 (frames_in (p ∷ ps)) ≡ []
 unfolding b_after
@@ -169,6 +167,6 @@ first_none (p ∷ ps) h =
 -- pictures behind others show what they show by themselves, where no B picture stands before their first anchor
 pub shown_append : (low : Bool) (ps qs : Pictures) → all_stand 0 qs ≡ true → shown low (ps ++ qs) ≡ shown low ps ++ shown low qs
 shown_append low ps qs h =
-    ap (λ (fs : List (Picture × ℕ)). raw_frames (Shown is_dropped low fs)) (frames_append ps qs)
+    ap (λ (fs : List (Picture × ℕ)). raw_frames (Shown is_dropped low fs)) (frames_in-append ps qs)
     ∙ ap raw_frames (shown_order is_dropped low (frames_in ps) (frames_in qs) (first_none qs h))
     ∙ map-append _ (Shown is_dropped low (frames_in ps)) (Shown is_dropped low (frames_in qs))

@@ -1,7 +1,7 @@
 -- The pictures of the strands are those of the pieces that are kept.
 use Rattle.std.proofs.Common.{◌≡◌, ℕ, ◌+◌, ◌≤◌, Bool, true, false, List, [], ◌∷◌, ◌++◌, length, map, take, drop, Option, Some, None, inl, inr, refl, sym, ap, subst, ◌∙◌, append_assoc, arith}
 use Rattle.std.specs.Prelude.{nat_eq, is_some, ◌||◌, if◌then◌else◌}
-use Rattle.std.proofs.lemmas.Bool.{cases_Bool, both_ways, eqb-true}
+use Rattle.std.proofs.lemmas.Bool.{cases_Bool, both_ways}
 use Rattle.std.proofs.lemmas.List.{map-append, take-append-drop}
 use Rattle.m2v_model.specs.Units.{Units, cut, joined, AreUnits}
 use Rattle.m2v_model.specs.Streams.{value_of}
@@ -13,17 +13,15 @@ use Rattle.m2v_law_seam.specs.Spans.{units_of, units_in, picture_count, field_of
 use Rattle.m2v_law_seam.specs.Seams.{lowered_unit, lowered, marked_unit, first_reference, b_first, behind_b, without_leading_pieces, has_own_head, bytes_or_none, first_opened, later_opened, pieces_opened, opened}
 use Rattle.m2v_law_seam.specs.Strands.{reads}
 use Rattle.m2v_law_seam.specs.Faults.{has_head}
+use Rattle.m2v_law_seam.proofs.Strand.{own_units}
 use Rattle.m2v_law_seam.proofs.Chain.{reads_as}
 use Rattle.m2v_law_seam.proofs.Pieced.{flat, Quiet, all_units, units_joined}
 use Rattle.m2v_law_seam.proofs.Edited.{KeepsUnits, mapped_units, mapped_count, lowered_keeps, marked_keeps, behind_units, place_units, without_middle}
 use Rattle.m2v_law_seam.proofs.Told.{count_append, units_append, b_parts}
-use Rattle.m2v_law_seam.proofs.Tame.{HeadOf, Tame}
+use Rattle.m2v_law_seam.proofs.Tame.{HeadOf, Tame, sequence_append}
+use Rattle.m2v_law_seam.proofs.Joint.{sequence_begins}
 
 -- ---- from the first sequence header on
-
-sequence_begins : (u : List ℕ) → is_sequence u ≡ true → begins_piece (value_of u) ≡ true
-unfolding begins_piece
-sequence_begins u is = rw (eqb-true (value_of u) 0xB3 is) refl
 
 quiet_none : (us : Units) → Quiet true us → has_sequence us ≡ false
 unfolding has_sequence
@@ -49,7 +47,7 @@ unfolding from_sequence has_sequence
 from_there [] f q h = absurd cc
 from_there (u ∷ us) f q h = from_step u us f (is_sequence u) (is_picture u) refl refl q.1 h (from_there us f)
 
-none_from : (us : Units) → has_sequence us ≡ false → from_sequence us ≡ []
+pub none_from : (us : Units) → has_sequence us ≡ false → from_sequence us ≡ []
 unfolding from_sequence has_sequence
 none_from [] h = refl
 none_from (u ∷ us) h = let p = or_parts (is_sequence u) (has_sequence us) h in rw (p.0) (none_from us p.1)
@@ -58,11 +56,6 @@ from_suffix : (us : Units) → (front : Units) × (us ≡ front ++ from_sequence
 unfolding from_sequence
 from_suffix [] = ([], refl)
 from_suffix (u ∷ us) = elim (cases_Bool (is_sequence u)) [ inl on ↦ rw on ([], refl) | inr off ↦ let i = from_suffix us in rw off (u ∷ i.0, ap (λ (l : Units). u ∷ l) i.1) ]
-
-sequence_behind : (us vs : Units) → has_sequence us ≡ false → has_sequence vs ≡ false → has_sequence (us ++ vs) ≡ false
-unfolding has_sequence
-sequence_behind [] vs a b = b
-sequence_behind (u ∷ us) vs a b = let p = or_parts (is_sequence u) (has_sequence us) a in rw (p.0) (sequence_behind us vs p.1 b)
 
 -- ---- bytes that are units, with so many pictures
 
@@ -75,7 +68,7 @@ pub record HasPictures (bytes : List ℕ) (n : ℕ) : Type 0 where
 pub pictures_are : (bytes : List ℕ) (n : ℕ) → HasPictures bytes n → picture_count (units_of bytes) ≡ n
 pictures_are bytes n h = ap (λ (l : List ℕ). picture_count (cut 0 l).1) h.is ∙ ap picture_count (cut_units h.units h.are) ∙ h.count
 
-lowered_are : (low : ℕ) (us : Units) → AreUnits us → AreUnits (lowered low us)
+pub lowered_are : (low : ℕ) (us : Units) → AreUnits us → AreUnits (lowered low us)
 lowered_are low us are = mapped_units (lowered_unit low) (lowered_keeps low) us are
 
 lowered_count : (low : ℕ) (us : Units) → AreUnits us → picture_count (lowered low us) ≡ picture_count us
@@ -95,7 +88,7 @@ opening_pictures x f low are quiet none read = elim (cases_Bool (has_sequence x)
       let c4 = i.1 in
       record { units = lowered low (from_sequence (x ++ f)); is = refl; are = lowered_are low (from_sequence (x ++ f)) own; count = lowered_count low (from_sequence (x ++ f)) own ∙ omega (arith, c1, c2, c3, c4) }
   | inr off ↦
-      let gone : from_sequence (x ++ f) ≡ [] = none_from (x ++ f) (sequence_behind x f off none) in
+      let gone : from_sequence (x ++ f) ≡ [] = none_from (x ++ f) (sequence_append x f off none) in
       let wrong : reads [] ≡ true = subst (λ (l : Units). reads (joined (lowered low l)) ≡ true) gone read in
       absurd (nothing_reads wrong)
 ]
@@ -110,7 +103,7 @@ behind_pictures r v vs low read are =
     let x = (reads_as r read).units in
     let own = x.h ∷ x.pm in
     let new = lowered_are low (v ∷ vs) are in
-    let mine : units_of r ≡ own = ap (λ (l : List ℕ). (cut 0 l).1) x.whole ∙ cut_units own x.are in
+    let mine = own_units r x in
     let a = count_append own (lowered low (v ∷ vs)) in
     let b = lowered_count low (v ∷ vs) are in
     let c = ap picture_count mine in
@@ -123,7 +116,7 @@ behind_pictures r v vs low read are =
 
 -- ---- a span with which a strand begins
 
-mapped_front : (f : List ℕ → List ℕ) → KeepsUnits f → (us vs : Units) → AreUnits (us ++ vs) → AreUnits (map f us ++ vs)
+pub mapped_front : (f : List ℕ → List ℕ) → KeepsUnits f → (us vs : Units) → AreUnits (us ++ vs) → AreUnits (map f us ++ vs)
 mapped_front f k [] vs are = are
 mapped_front f k (u ∷ []) vs are = k.unit u vs are
 mapped_front f k (u ∷ w ∷ us) vs are =
@@ -197,23 +190,24 @@ own_opened low head x ps ax are quiet on =
 
 copied_opened : (low : ℕ) (bytes : List ℕ) (v : List ℕ) (x : Units) (us : Units) (ps : List (List ℕ)) → HeadOf (Some bytes) ((v ∷ x) ++ us) → AreUnits (v ∷ x) → AreUnits ((v ∷ x) ++ units_in ps) → has_sequence (v ∷ x) ≡ false
     → HasPictures (joined (pieces_opened low (Some bytes) (joined (v ∷ x) ∷ ps))) (picture_count (v ∷ x) + picture_count (units_in ps))
-copied_opened low bytes v x us ps (hs, ys, is, hare, none, some) ax are off =
+copied_opened low bytes v x us ps h ax are off =
     let o = opened_units low (v ∷ x) (units_in ps) are in
     let front = map marked_unit (lowered low (v ∷ x)) in
     let new = front ++ lowered low (units_in ps) in
-    let f = first_of_units v ys (x ++ us) in
-    let all : AreUnits (hs ++ new) = place_units hs f.0 f.1 (marked_unit (lowered_unit low v)) (map marked_unit (lowered low x) ++ lowered low (units_in ps)) (subst (λ (l : Units). AreUnits (hs ++ l)) f.2 hare) o.0 in
+    let f = first_of_units v h.ys (x ++ us) in
+    let all : AreUnits (h.hs ++ new) = place_units h.hs f.0 f.1 (marked_unit (lowered_unit low v)) (map marked_unit (lowered low x) ++ lowered low (units_in ps)) (subst (λ (l : Units). AreUnits (h.hs ++ l)) f.2 h.are) o.0 in
     let first : first_opened low (Some bytes) (joined (v ∷ x)) ≡ bytes ++ joined front =
     ap (λ (l : Units). if has_sequence l then joined (map marked_unit (lowered low (from_sequence l))) else bytes ++ joined (map marked_unit (lowered low l))) (cut_units (v ∷ x) ax) ∙ rw off refl in
-    let c1 = count_append hs new in
+    let c1 = count_append h.hs new in
     let c2 = o.1 in
+    let c3 = h.none in
     record {
-      units = hs ++ new;
+      units = h.hs ++ new;
       is = ap (λ (l : List ℕ). l ++ joined (later_opened low ps)) first ∙ append_assoc bytes (joined front) (joined (later_opened low ps))
           ∙ ap (λ (l : List ℕ). bytes ++ (joined front ++ l)) (later_bytes low ps) ∙ ap (λ (l : List ℕ). bytes ++ l) (sym (joined-append front (lowered low (units_in ps))))
-          ∙ ap (λ (l : List ℕ). l ++ joined new) is ∙ sym (joined-append hs new);
+          ∙ ap (λ (l : List ℕ). l ++ joined new) h.is ∙ sym (joined-append h.hs new);
       are = all;
-      count = omega (arith, c1, c2, none);
+      count = omega (arith, c1, c2, c3);
     }
 
 by_head : (low : ℕ) (head : Option (List ℕ)) (x us : Units) (ps : List (List ℕ)) → HeadOf head (x ++ us) → 1 ≤ length x → AreUnits x → AreUnits (x ++ units_in ps) → Quiet false x → (has_sequence x || is_some head) ≡ true → HasPictures (joined (pieces_opened low head (joined x ∷ ps))) (picture_count x + picture_count (units_in ps))

@@ -1,7 +1,8 @@
 -- The pieces of units, as lists of units; and spans, of which each but the first begins with an entry.
 use Rattle.std.proofs.Common.{◌≡◌, ℕ, ◌≤◌, Bool, true, false, List, [], ◌∷◌, ◌++◌, length, map, inl, inr, refl, sym, ap, subst, ◌∙◌, append_assoc, append-nil, arith}
 use Rattle.std.specs.Prelude.{nat_eq, ◌||◌, if◌then◌else◌}
-use Rattle.std.proofs.lemmas.Bool.{cases_Bool, both_ways, eqb-true}
+use Rattle.std.proofs.lemmas.Bool.{cases_Bool, both_ways, eqb-true, or_right}
+use Rattle.std.proofs.Math.Bool.{or-false, or_assoc}
 use Rattle.m2v_model.specs.declared.phase.Phase.{Phase}
 use Rattle.m2v_model.specs.declared.phase.Phase.TheVariants.{Before, Headers, Picture}
 use Rattle.m2v_model.specs.Units.{Units, joined, AreUnits}
@@ -48,10 +49,6 @@ Full [] = Unit {0}
 Full (x ∷ []) = Unit {0}
 Full (x ∷ y ∷ q) = (has_picture x ≡ true) × Full (y ∷ q)
 
-or_right : (a b : Bool) → b ≡ true → (a || b) ≡ true
-or_right true b e = refl
-or_right false b e = e
-
 pub picture_last : (us : Units) (u : List ℕ) → is_picture u ≡ true → has_picture (us ++ u ∷ []) ≡ true
 unfolding has_picture
 picture_last [] u e = rw e refl
@@ -81,18 +78,10 @@ abbrev pub AllQuiet : List Units → Type 0
 AllQuiet [] = Unit {0}
 AllQuiet (x ∷ q) = Quiet false x × AllQuiet q
 
-or_or : (a b c : Bool) → ((a || b) || c) ≡ (a || (b || c))
-or_or true b c = refl
-or_or false b c = refl
-
-or_none : (a : Bool) → (a || false) ≡ a
-or_none true = refl
-or_none false = refl
-
 quiet_more : (seen : Bool) (us : Units) (u : List ℕ) → Quiet seen us → ((seen || has_picture us) ≡ true → begins_piece (value_of u) ≡ false) → Quiet seen (us ++ u ∷ [])
 unfolding has_picture
-quiet_more seen [] u q h = (λ on. h (or_none seen ∙ on), tt)
-quiet_more seen (v ∷ us) u q h = (q.0, quiet_more (seen || is_picture v) us u q.1 (λ on. h (sym (or_or seen (is_picture v) (has_picture us)) ∙ on)))
+quiet_more seen [] u q h = (λ on. h (or-false seen ∙ on), tt)
+quiet_more seen (v ∷ us) u q h = (q.0, quiet_more (seen || is_picture v) us u q.1 (λ on. h (sym (or_assoc seen (is_picture v) (has_picture us)) ∙ on)))
 
 picture_none : (us : Units) (u : List ℕ) → has_picture us ≡ false → is_picture u ≡ false → has_picture (us ++ u ∷ []) ≡ false
 unfolding has_picture
@@ -137,7 +126,7 @@ some_piece : (x : List ℕ) (rest : List ℕ) → 1 ≤ length x → piece_of (x
 some_piece [] rest le = absurd (omega arith)
 some_piece (b ∷ x) rest le = refl
 
-joined_one : (x : List ℕ) (xs : Units) (u : List ℕ) → joined (x ∷ xs) ++ u ≡ joined (x ∷ (xs ++ u ∷ []))
+pub joined_one : (x : List ℕ) (xs : Units) (u : List ℕ) → joined (x ∷ xs) ++ u ≡ joined (x ∷ (xs ++ u ∷ []))
 joined_one x xs u = append_assoc x (joined xs) u ∙ ap (λ (l : List ℕ). x ++ l) (ap (λ (l : List ℕ). joined xs ++ l) (sym (append-nil u)) ∙ sym (joined-append xs (u ∷ [])))
 
 last_headers : (x : List ℕ) (xs : Units) → 1 ≤ length x → grouped Headers (joined (x ∷ xs)) [] ≡ joined (x ∷ xs) ∷ []

@@ -10,8 +10,8 @@ use Rattle.m2v_model.specs.Units.{Units, cut, joined, unit_bits, AreUnits}
 use Rattle.m2v_model.specs.States.{none_waits}
 use Rattle.m2v_model.specs.Pictures.{Events}
 use Rattle.m2v_model.specs.ByPieces.{Between, Course, at_start, behind, continued, units_read, piece_read, text_ended, end_read}
-use Rattle.m2v_model.proofs.CutLaws.{cut_units, joined_bits, joined-append}
-use Rattle.m2v_model.proofs.PieceLaws.{placed, piece_is, piece_none}
+use Rattle.m2v_model.proofs.CutLaws.{joined_bits, joined-append}
+use Rattle.m2v_model.proofs.PieceLaws.{placed, piece_is, piece_none, no_ends-append}
 use Rattle.m2v_model.proofs.ShiftLaws.{BeginsPiece, NoEnds}
 use Rattle.m2v_model.proofs.SplitLaws.{IsKnown, KnownAt, known_at, over_seen}
 use Rattle.m2v_model.proofs.CountLaws.{Told, open_count, pictures_told}
@@ -23,13 +23,13 @@ use Rattle.m2v_law_seam.specs.Strands.{begins_sequence, has_end, last_open}
 use Rattle.m2v_law_seam.specs.Strands as strands
 use Rattle.m2v_law_seam.specs.Faults.{fault_by, fault_behind, ends_from, read_at}
 use Rattle.m2v_law_seam.specs.Reading.{ended_read, BeginsOnePiece, BeginsSequence, ArePieces, CanGrow, CanGoBehind, HasRead}
-use Rattle.m2v_law_seam.proofs.Strand.{none_ends, strand_units}
-use Rattle.m2v_law_seam.proofs.Reading.{both_go, rested_same}
+use Rattle.m2v_law_seam.proofs.Strand.{none_ends, strand_units, own_units}
+use Rattle.m2v_law_seam.proofs.Reading.{rested_same}
 use Rattle.m2v_law_seam.proofs.ByUnits.{read_alone, grown, has_read, fault_on}
 
 -- ---- what was read of a piece, by its units
 
-placed_ok : (end : ℕ) (r : Course) (x : Events × Between) → placed end r ≡ Ok x → r ≡ Ok x
+pub placed_ok : (end : ℕ) (r : Course) (x : Events × Between) → placed end r ≡ Ok x → r ≡ Ok x
 placed_ok end (Ok y) x e = e
 placed_ok end (Err f) x e = absurd cc
 
@@ -98,6 +98,9 @@ never_none us [] begins e = begins
 never_none [] (v ∷ vs) begins e = absurd cc
 never_none (u ∷ us) (v ∷ vs) begins e = absurd cc
 
+pub first_is : (v : List ℕ) (vs ws : Units) → ws ≡ v ∷ vs → BeginsSequence ws → is_sequence v ≡ true
+first_is v vs ws e b = subst BeginsSequence e b
+
 -- bytes of pieces are those of their units
 pub whole_bytes : (ps : List (List ℕ)) → ArePieces ps → joined ps ≡ joined (units_in ps)
 unfolding units_in
@@ -127,8 +130,7 @@ pub none_grown : (bytes : List ℕ) → CanGrow bytes → units_of bytes ≡ [] 
 none_grown bytes (inl e) none = e
 none_grown bytes (inr h) none =
     let x = strand_units bytes h.0 h.1 h.2 in
-    let own : units_of bytes ≡ x.h ∷ x.pm = ap (λ (l : List ℕ). (cut 0 l).1) x.whole ∙ cut_units (x.h ∷ x.pm) x.are in
-    let wrong : x.h ∷ x.pm ≡ [] = sym own ∙ none in
+    let wrong : x.h ∷ x.pm ≡ [] = sym (own_units bytes x) ∙ none in
     absurd cc
 
 pub begins_later : (qs : List (List ℕ)) → ArePieces qs → BeginsPiece (units_in qs)
@@ -237,7 +239,7 @@ module _ (end bits : ℕ) (kind : FaultKind) (place : ℕ) where
       let next : end ≡ (at + length p) + length (joined ps) = omega (arith, is, long) in
       piece_placed us es b at p ps (piece_read b (at + length p) p) h none own a (λ empty. front_sequence (units_of p) (units_in ps) (a.0).begins (first empty)) next refl e
       (λ fs last has later.
-      all_placed ps (us ++ units_of p) (es ++ fs) last (at + length p) has (both_go us (units_of p) none mine.0) mine.1 a.1 (λ empty. next_first us (units_of p) (units_in ps) (a.0).begins empty) next later)
+      all_placed ps (us ++ units_of p) (es ++ fs) last (at + length p) has (no_ends-append us (units_of p) none mine.0) mine.1 a.1 (λ empty. next_first us (units_of p) (units_in ps) (a.0).begins empty) next later)
 
 -- ---- the fault of a span
 
@@ -268,6 +270,3 @@ fault_placed s bytes ps es b n at kind place h can c closed is e =
     let no_end : has_end (units_of all) ≡ false = ap (λ (l : List ℕ). has_end (units_of l)) whole ∙ g.no_end in
     let read : strands.read_of all ≡ Err (kind, x.told) = read_alone all begins no_end closed ∙ ap (λ (l : Units). ended_read bits (units_read at_start l)) units ∙ x.is in
     behind_by s all (last_open (cut 0 all).1) (Err (kind, x.told)) refl closed read ∙ ap (λ (k : ℕ). (kind, k)) x.at
-  where
-    first_is : (v : List ℕ) (vs ws : Units) → ws ≡ v ∷ vs → BeginsSequence ws → is_sequence v ≡ true
-    first_is v vs ws e b = subst BeginsSequence e b

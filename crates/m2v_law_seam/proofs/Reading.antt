@@ -12,12 +12,12 @@ use Rattle.m2v_model.specs.Units.{Units, cut, joined, AreUnits}
 use Rattle.m2v_model.specs.States.{at_first, is_complete, none_waits}
 use Rattle.m2v_model.specs.Streams.{Part, Sofar, sequence, group, picture, matrices, slice, unread_slice, skipped_unit, ending, over, after, units_from}
 use Rattle.m2v_model.specs.Pictures.{Events, closed, picture_ended}
-use Rattle.m2v_model.specs.Pieces.{begins_piece, is_end}
+use Rattle.m2v_model.specs.Pieces.{is_end}
 use Rattle.m2v_model.specs.ByPieces.{Between, Course, at_start, behind, course_of, units_read}
 use Rattle.m2v_model.proofs.StreamLaws.{units_lawful}
 use Rattle.m2v_model.proofs.CutLaws.{cuts_is, cut_units, joined-append}
-use Rattle.m2v_model.proofs.PieceLaws.{finished, text_is}
-use Rattle.m2v_model.proofs.ShiftLaws.{BeginsPiece, NoEnds}
+use Rattle.m2v_model.proofs.PieceLaws.{finished, text_is, no_ends-append}
+use Rattle.m2v_model.proofs.ShiftLaws.{NoEnds}
 use Rattle.m2v_model.proofs.SplitLaws.{IsKnown, IsKnownBehind, rested, closed_of, behind_none, closing, end_seen, split, splits}
 use Rattle.m2v_law_group.specs.Groups.{is_sequence, end_code}
 use Rattle.m2v_law_group.proofs.Runs.{Ends, finish, going, ended}
@@ -26,7 +26,7 @@ use Rattle.m2v_law_group.proofs.Tens.{IsFinal, final_part}
 use Rattle.m2v_law_seam.specs.Strands.{reads}
 use Rattle.m2v_law_seam.specs.Strands as strands
 use Rattle.m2v_law_seam.specs.Reading.{ended_read, read_then, CanFollow, ReadsOn}
-use Rattle.m2v_law_seam.proofs.Strand.{StrandUnits, none_ends, units_ended}
+use Rattle.m2v_law_seam.proofs.Strand.{StrandUnits, none_ends, units_ended, code_begins, own_units}
 use Rattle.m2v_law_seam.proofs.Chain.{reads_as}
 use Rattle.m2v_law_seam.proofs.Edited.{behind_units}
 
@@ -70,10 +70,6 @@ complete_none : (s : Option Sequence) (p : Option Open) → p ≡ None → is_co
 complete_none (Some s) p e = ap (is_complete (Some s)) e
 complete_none None p e = refl
 
-code_begins : BeginsPiece (end_code ∷ [])
-unfolding begins_piece
-code_begins = refl
-
 pub rested_same : (b : Between) → b.state.picture ≡ None → rested b ≡ b
 rested_same b e = ap (λ (p : Option Open). record { state = record b.state { picture = None }; store = picture_ended p b.store }) e ∙ ap (λ (p : Option Open). record { state = record b.state { picture = p }; store = b.store }) (sym e)
 
@@ -113,21 +109,25 @@ read_ended h pm are is goes =
     ∙ ap (finished (length text)) s.is
     ∙ code_split (units_read at_start us) (length (joined us)) (length text) s.known (read_closed us) end
 
+pub alone_by : (bytes : List ℕ) (x : StrandUnits bytes) → strands.read_of bytes ≡ ended_read (8 * length bytes) (units_read at_start (cut 0 bytes).1)
+alone_by bytes x =
+    let own = x.h ∷ x.pm in
+    ap strands.read_of x.whole
+    ∙ read_ended x.h x.pm x.ended x.is x.goes
+    ∙ ap (λ (l : List ℕ). ended_read (8 * length l) (units_read at_start own)) (sym x.whole)
+    ∙ ap (λ (l : Units). ended_read (8 * length bytes) (units_read at_start l)) (sym (own_units bytes x))
+
 -- ---- both
 
 split_then : (vs : Units) (r : Course) → split vs r ≡ read_then r vs
 split_then vs (Ok x) = refl
 split_then vs (Err f) = refl
 
-pub both_go : (us vs : Units) → NoEnds us → NoEnds vs → NoEnds (us ++ vs)
-both_go [] vs n m = m
-both_go (u ∷ us) vs n m = (n.0, both_go us vs n.1 m)
-
 on_by : (bytes : List ℕ) (x : StrandUnits bytes) (u : List ℕ) (us : Units) → CanFollow u us → ReadsOn bytes u us
 on_by bytes x u us c =
     let own = x.h ∷ x.pm in
     let vs = u ∷ us in
-    let mine : (cut 0 bytes).1 ≡ own = ap (λ (l : List ℕ). (cut 0 l).1) x.whole ∙ cut_units own x.are in
+    let mine = own_units bytes x in
     let later = none_ends vs c.no_end in
     let all : AreUnits (own ++ vs) = behind_units own u us x.ended c.are in
     let ended : AreUnits ((own ++ vs) ++ end_code ∷ []) = subst AreUnits (sym (append_assoc own vs (end_code ∷ []))) (behind_units own u (us ++ end_code ∷ []) x.ended (units_ended vs c.are c.closed)) in
@@ -136,9 +136,8 @@ on_by bytes x u us c =
     let read : units_read at_start (own ++ vs) ≡ read_then (units_read at_start own) vs = s.is ∙ split_then vs (units_read at_start own) in
     record {
       units = ap (λ (l : List ℕ). (cut 0 l).1) whole ∙ cut_units (own ++ vs) all ∙ ap (λ (l : Units). l ++ vs) (sym mine);
-      alone = ap strands.read_of x.whole ∙ read_ended x.h x.pm x.ended x.is x.goes ∙ ap (λ (l : List ℕ). ended_read (8 * length l) (units_read at_start own)) (sym x.whole)
-          ∙ ap (λ (l : Units). ended_read (8 * length bytes) (units_read at_start l)) (sym mine);
-      both = ap strands.read_of whole ∙ read_ended x.h (x.pm ++ vs) ended x.is (both_go own vs x.goes later)
+      alone = alone_by bytes x;
+      both = ap strands.read_of whole ∙ read_ended x.h (x.pm ++ vs) ended x.is (no_ends-append own vs x.goes later)
           ∙ ap (λ (l : List ℕ). ended_read (8 * length l) (units_read at_start (own ++ vs))) (sym whole)
           ∙ ap (ended_read (8 * length (bytes ++ joined vs))) read
           ∙ ap (λ (l : Units). ended_read (8 * length (bytes ++ joined vs)) (read_then (units_read at_start l) vs)) (sym mine);

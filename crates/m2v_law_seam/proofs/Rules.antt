@@ -1,7 +1,7 @@
 -- The rule of a strand, on the pictures that are told and on the parts that tell them.
 use Rattle.std.proofs.Common.{◌≡◌, ℕ, Bool, true, false, List, [], ◌∷◌, ◌++◌, Option, Some, None, refl, sym, ap, subst, ◌∙◌, append_assoc}
 use Rattle.std.specs.Prelude.{nat_eq, not, ◌||◌}
-use Rattle.std.proofs.lemmas.Bool.{eqb-true}
+use Rattle.std.proofs.lemmas.Bool.{eqb-true, not-true}
 use Rattle.m2v_model.specs.declared.state.Open.{Open}
 use Rattle.m2v_model.specs.declared.state.FirstField.{FirstField}
 use Rattle.m2v_model.specs.declared.state.State.{State}
@@ -21,17 +21,13 @@ use Rattle.m2v_law_seam.specs.Strands.{may_stand, all_stand}
 use Rattle.m2v_law_seam.proofs.Behind.{Stands}
 use Rattle.m2v_law_seam.proofs.Again.{AllStand}
 
-not_true : (b : Bool) → not b ≡ true → b ≡ false
-not_true true e = absurd cc
-not_true false e = refl
-
 intra_by : (anchors kind : ℕ) → (not (nat_eq anchors 0) || nat_eq kind 1) ≡ true → anchors ≡ 0 → kind ≡ 1
 intra_by anchors kind h none = eqb-true kind 1 (subst (λ (n : ℕ). (not (nat_eq n 0) || nat_eq kind 1) ≡ true) none h)
 
 stands_by : (anchors : ℕ) (p : Picture) → may_stand anchors p ≡ true → Stands anchors p.info.kind
 stands_by anchors p h =
     let parts = and_parts (not (nat_eq anchors 0) || nat_eq p.info.kind 1) (not (is_leading anchors p)) h in
-    record { intra = intra_by anchors p.info.kind parts.0; kept = not_true (is_left_kind true anchors p.info.kind) parts.1 }
+    record { intra = intra_by anchors p.info.kind parts.0; kept = not-true (is_left_kind true anchors p.info.kind) parts.1 }
 
 -- ---- parts, by what is told of them
 
@@ -121,7 +117,7 @@ beside_one : (anchors : ℕ) (p q : Picture) (left : Bool) → is_leading anchor
 beside_one anchors p q false e h may = h
 beside_one anchors p q true e h may =
     let parts = and_parts (not (nat_eq anchors 0) || nat_eq q.info.kind 1) (not (is_leading anchors q)) may in
-    let wrong : true ≡ false = sym e ∙ leading_as anchors p q h.1 ∙ not_true (is_leading anchors q) parts.1 in
+    let wrong : true ≡ false = sym e ∙ leading_as anchors p q h.1 ∙ not-true (is_leading anchors q) parts.1 in
     absurd cc
 
 -- where those of the strand by itself keep the rule, those in place are the same
@@ -148,4 +144,4 @@ none_leading anchors [] h = refl
 none_leading anchors (p ∷ ps) h =
     let parts = and_parts (may_stand anchors p) (all_stand (anchors_behind anchors p) ps) h in
     let own = and_parts (not (nat_eq anchors 0) || nat_eq p.info.kind 1) (not (is_leading anchors p)) parts.0 in
-    leading_step anchors p ps (is_leading anchors p) refl (not_true (is_leading anchors p) own.1) (none_leading (anchors_behind anchors p) ps parts.1)
+    leading_step anchors p ps (is_leading anchors p) refl (not-true (is_leading anchors p) own.1) (none_leading (anchors_behind anchors p) ps parts.1)

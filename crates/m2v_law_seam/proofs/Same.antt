@@ -1,7 +1,7 @@
 -- What has no fault stays as it is.
 use Rattle.std.proofs.Common.{◌≡◌, ℕ, ◌≤◌, Bool, true, false, List, [], ◌∷◌, ◌++◌, length, map, Option, Some, None, ◌⊎◌, inl, inr, refl, sym, ap, subst, ◌∙◌, append_assoc, append-nil, arith}
-use Rattle.std.specs.Prelude.{not, ◌&&◌, ◌||◌, is_none}
-use Rattle.std.proofs.lemmas.Bool.{cases_Bool}
+use Rattle.std.specs.Prelude.{not, ◌||◌, is_none}
+use Rattle.std.proofs.lemmas.Bool.{cases_Bool, and_from}
 use Rattle.std.proofs.lemmas.List.{map-append}
 use Rattle.m2v_model.specs.declared.state.Sequence.{Sequence}
 use Rattle.m2v_model.specs.Units.{Units, joined, AreUnits}
@@ -56,9 +56,6 @@ pub record Led (fs : Option Sequence) (body : Units) (m : Mending) (bu : Units) 
   pub whole : body ≡ (h ∷ t) ++ bu
   pub some : 1 ≤ length h
 
-both_true : (a b : Bool) → a ≡ true → b ≡ true → (a && b) ≡ true
-both_true a b p q = rw (p, q) refl
-
 self_agrees : (fs : Option Sequence) → agrees fs fs ≡ true
 self_agrees None = refl
 self_agrees (Some f) = agree_self f
@@ -67,17 +64,17 @@ self_kept : (fs : Option Sequence) → first_kept fs fs ≡ fs
 self_kept None = refl
 self_kept (Some f) = refl
 
-span_behind : (m : Mending) (s : Span) → goes_behind m s ≡ true → with_span m s ≡ put_behind m s
+pub span_behind : (m : Mending) (s : Span) → goes_behind m s ≡ true → with_span m s ≡ put_behind m s
 unfolding with_span
 span_behind m s h = rw h refl
 
 goes : (m : Mending) (s : Span) (r : List ℕ) (us : Units) (fs : Option Sequence) → m.strand ≡ Some r → m.opening ≡ true → strand_with m s ≡ joined us → agrees m.first fs ≡ true → is_short s ≡ true → FrontReads us fs → goes_behind m s ≡ true
 goes m s r us fs strand opening bytes agree short f =
     let first : first_in (read_of (strand_with m s)) ≡ fs = ap (λ (l : List ℕ). first_in (read_of l)) bytes ∙ f.first_is in
-    both_true (not (is_none m.strand)) _ (ap (λ (o : Option (List ℕ)). not (is_none o)) strand)
-    (both_true (is_short s) (is_strand m.opening m.first (strand_with m s)) short
-    (both_true (reads (strand_with m s)) _ (ap reads bytes ∙ f.read)
-    (both_true (agrees m.first (first_in (read_of (strand_with m s)))) _ (ap (agrees m.first) first ∙ agree) (ap (λ (b : Bool). b || keeps_rule (pictures_of (read_of (strand_with m s)))) opening))))
+    and_from (not (is_none m.strand)) _ (ap (λ (o : Option (List ℕ)). not (is_none o)) strand)
+    (and_from (is_short s) (is_strand m.opening m.first (strand_with m s)) short
+    (and_from (reads (strand_with m s)) _ (ap reads bytes ∙ f.read)
+    (and_from (agrees m.first (first_in (read_of (strand_with m s)))) _ (ap (agrees m.first) first ∙ agree) (ap (λ (b : Bool). b || keeps_rule (pictures_of (read_of (strand_with m s)))) opening))))
 
 led_by : (m : Mending) (s : Span) (r : List ℕ) (h : List ℕ) (t bu body : Units) (fs : Option Sequence) → m.strand ≡ Some r → m.opening ≡ true → m.done ≡ [] → m.gaps ≡ [] → low_of_span m s ≡ 0 → strand_with m s ≡ joined (h ∷ t) → agrees m.first fs ≡ true → first_kept m.first fs ≡ fs
     → is_short s ≡ true → FrontReads (h ∷ t) fs → body ≡ (h ∷ t) ++ bu → 1 ≤ length h → Led fs body (with_span m s) bu
@@ -238,7 +235,7 @@ bare_begins : (z : Units) (q : List Units) → BeginsOne z → BeginsPiece (z ++
 bare_begins [] q b = absurd b
 bare_begins (v ∷ vs) q b = b.0
 
-pieces_begin : (q : List Units) (rs : Units) → AllBegin q → BeginsPiece rs → BeginsPiece (flat q ++ rs)
+pub pieces_begin : (q : List Units) (rs : Units) → AllBegin q → BeginsPiece rs → BeginsPiece (flat q ++ rs)
 pieces_begin [] rs b more = more
 pieces_begin (z ∷ q) rs b more = piece_begins z q rs b.0
 

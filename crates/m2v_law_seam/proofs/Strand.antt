@@ -12,7 +12,7 @@ use Rattle.m2v_model.specs.Pictures.{Events, no_frames, pictures_in, closed, eve
 use Rattle.m2v_model.specs.Decoding.{Stream, pictures}
 use Rattle.m2v_model.specs.Pieces.{is_end, begins_piece}
 use Rattle.m2v_model.specs.ByPieces.{unit_read}
-use Rattle.m2v_model.proofs.CutLaws.{cut_cuts, cut_front, cuts_is}
+use Rattle.m2v_model.proofs.CutLaws.{cut_cuts, cut_front, cuts_is, cut_units}
 use Rattle.m2v_model.proofs.EventLaws.{pictures_in-append}
 use Rattle.m2v_model.proofs.ShiftLaws.{BeginsPiece, NoEnds}
 use Rattle.m2v_model.proofs.SplitLaws.{IsKnown}
@@ -29,6 +29,7 @@ use Rattle.m2v_law_group.proofs.Start.{sequence_start, complete_there}
 use Rattle.m2v_law_group.proofs.Core.{first_read}
 use Rattle.m2v_law_group.proofs.Between.{OtherFirst, final_only, paired_end}
 use Rattle.m2v_law_group.proofs.Decodes.{read_whole}
+use Rattle.m2v_law_seam.specs.Spans.{units_of}
 use Rattle.m2v_law_seam.specs.Strands.{begins_sequence, has_end, is_prefix, ends_open, last_open}
 
 -- ---- its units
@@ -131,6 +132,9 @@ strand_units bytes begins no_end closed =
     let whole : bytes ≡ joined (cut 0 bytes).1 = c.whole ∙ ap (λ (l : List ℕ). l ++ joined (cut 0 bytes).1) (cut_front bytes code) in
     units_by bytes (cut 0 bytes).1 f whole c.are_units no_end closed
 
+pub own_units : (bytes : List ℕ) (x : StrandUnits bytes) → units_of bytes ≡ x.h ∷ x.pm
+own_units bytes x = ap units_of x.whole ∙ cut_units (x.h ∷ x.pm) x.are
+
 -- ---- its parts
 
 no_parts : {st z : State} {us rest : Units} {ps : List Part} → Ends st us ps z rest → ps ≡ [] → ⊥
@@ -142,7 +146,7 @@ one_part : {st z : State} {us rest : Units} {ps : List Part} → Ends st us ps z
 one_part {st} (finish {p = q} e) p is = let same : q ≡ p = cc in ap (after st) same
 one_part (going {ps = later} e h) p is = let none : later ≡ [] = cc in absurd (no_parts h none)
 
-code_begins : BeginsPiece (end_code ∷ [])
+pub code_begins : BeginsPiece (end_code ∷ [])
 unfolding begins_piece
 code_begins = refl
 
@@ -175,11 +179,11 @@ pub record StrandRead (tree : Sofar) (h : List ℕ) (pm : Units) : Type 0 where
   pub first : between.first ≡ Some s
   pub first_told : tree.state.first ≡ Some s
 
-known_behind : (s : Sequence) → IsKnown (after at_first (sequence s))
+pub known_behind : (st : State) (s : Sequence) → IsKnown (after st (sequence s))
 unfolding after
-known_behind s = refl
+known_behind st s = refl
 
-first_behind : (s : Sequence) → (after at_first (sequence s)).first ≡ Some s
+pub first_behind : (s : Sequence) → (after at_first (sequence s)).first ≡ Some s
 unfolding after
 first_behind s = refl
 
@@ -193,7 +197,7 @@ read_by tree h pm rest is paired ends i =
     let q = sequence_start at_first h pm f.mid f.p is f.read in
     let run : Run (after at_first (sequence q.s)) f.mid f.later i.between [] = subst (λ (y : Part). Run (after at_first y) f.mid f.later i.between []) q.part f.run in
     let mine : i.mine ≡ sequence q.s ∷ f.later = f.parts ∙ ap (λ (y : Part). y ∷ f.later) q.part in
-    let known = run_known run (known_behind q.s) in
+    let known = run_known run (known_behind at_first q.s) in
     let o = final_only i.later code_behind known in
     let state = one_part i.later o.0 o.1 in
     let first = first_kept run q.s (first_behind q.s) in

@@ -3,21 +3,18 @@ use Rattle.std.proofs.Common.{◌≡◌, ℕ, zero, suc, ◌-◌, ◌≤◌, Boo
 use Rattle.std.specs.Prelude.{nat_eq, nat_le, ◌&&◌, ◌||◌, replicate}
 use Rattle.std.proofs.lemmas.Bool.{le-leb}
 use Rattle.std.proofs.lemmas.List.{length-append}
+use Rattle.std.proofs.Math.Bool.{or-false}
 use Rattle.m2v_law_seam.specs.Strands.{is_prefix, ends_open}
 
 long_prefix : (a b c d : ℕ) (w : List ℕ) → is_prefix (a ∷ b ∷ c ∷ d ∷ w) ≡ false
 long_prefix a b c d w = refl
-
-or_none : (a : Bool) → (a || false) ≡ a
-or_none true = refl
-or_none false = refl
 
 pub open_tail : (w : List ℕ) → ends_open w ≡ is_prefix (drop (length w - 3) w)
 unfolding ends_open
 open_tail [] = refl
 open_tail (a ∷ []) = refl
 open_tail (a ∷ b ∷ []) = refl
-open_tail (a ∷ b ∷ c ∷ []) = or_none (is_prefix (a ∷ b ∷ c ∷ []))
+open_tail (a ∷ b ∷ c ∷ []) = or-false (is_prefix (a ∷ b ∷ c ∷ []))
 open_tail (a ∷ b ∷ c ∷ d ∷ w) =
     let next : length (a ∷ b ∷ c ∷ d ∷ w) - 3 ≡ suc (length (b ∷ c ∷ d ∷ w) - 3) = omega arith in
     open_tail (b ∷ c ∷ d ∷ w) ∙ ap (λ (n : ℕ). is_prefix (drop n (a ∷ b ∷ c ∷ d ∷ w))) (sym next)

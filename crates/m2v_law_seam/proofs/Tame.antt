@@ -1,7 +1,7 @@
 -- What is known of each span of a text: its units are units, no picture stands in its first piece before a sequence header, and
 -- none of its later pieces has one; and its head stands before it.
 use Rattle.std.proofs.Common.{◌≡◌, ℕ, ◌+◌, ◌≤◌, Bool, true, false, List, [], ◌∷◌, ◌++◌, length, map, Option, Some, None, inl, inr, refl, sym, ap, subst, ◌∙◌, append_assoc, append-nil, arith}
-use Rattle.std.specs.Prelude.{nat_eq, nat_le, not, ◌&&◌, ◌||◌, if◌then◌else◌}
+use Rattle.std.specs.Prelude.{nat_eq, ◌||◌, if◌then◌else◌}
 use Rattle.std.proofs.lemmas.Bool.{cases_Bool, both_ways, eqb-true}
 use Rattle.std.proofs.lemmas.List.{map-append}
 use Rattle.m2v_model.specs.declared.phase.Phase.TheVariants.{Headers}
@@ -11,8 +11,10 @@ use Rattle.m2v_model.specs.Pieces.{is_end, grouped}
 use Rattle.m2v_model.proofs.CutLaws.{cut_cuts, cut_units, are_before, are_behind}
 use Rattle.m2v_model.proofs.ShiftLaws.{NoEnds}
 use Rattle.m2v_law_group.specs.Groups.{is_picture, is_sequence, has_sequence, from_last_sequence}
-use Rattle.m2v_law_group.proofs.Lists.{or_parts}
-use Rattle.m2v_law_seam.specs.Spans.{picture_count, has_group, is_entry, waits_behind, divided, Dividing, is_extension, has_matrices, extensions_first, behind_extensions, most_head, head_of, Span, placed, stretches_from, stretch_spans, spans_in}
+use Rattle.m2v_law_group.proofs.Lists.{or_parts, last_found}
+use Rattle.m2v_law_seam.specs.Spans.{picture_count, has_group, is_entry, waits_behind, divided, Dividing, is_extension, extensions_first, behind_extensions, head_of, Span, placed, stretches_from, stretch_spans, spans_in}
+use Rattle.m2v_law_seam.specs.Strands.{has_end}
+use Rattle.m2v_law_seam.specs.Reading.{BeginsSequence}
 use Rattle.m2v_law_seam.proofs.Pieced.{flat, AllSome, Quiet, AllQuiet, AllUnits, pieced, units_joined}
 use Rattle.m2v_law_seam.proofs.Edited.{without_middle}
 use Rattle.m2v_law_seam.proofs.Same.{divided_none, divided_on, divided_off, units_more, flat_one, flat_more}
@@ -20,43 +22,16 @@ use Rattle.m2v_law_seam.proofs.There.{more_goes}
 
 -- ---- heads
 
-last_step : (u : List ℕ) (us : Units) (b : Bool) → (is_sequence u && not (has_sequence us)) ≡ b → (x : Units) × (us ≡ x ++ from_last_sequence us) → (x : Units) × (u ∷ us ≡ x ++ from_last_sequence (u ∷ us))
-unfolding from_last_sequence
-last_step u us true e i = rw e ([], refl)
-last_step u us false e i = rw e (u ∷ i.0, ap (λ (l : Units). u ∷ l) i.1)
-
-last_suffix : (us : Units) → (x : Units) × (us ≡ x ++ from_last_sequence us)
-unfolding from_last_sequence
-last_suffix [] = ([], refl)
-last_suffix (u ∷ us) = last_step u us (is_sequence u && not (has_sequence us)) refl (last_suffix us)
-
-first_step : (u : List ℕ) (us : Units) (h : List ℕ) (w : Units) (b : Bool) → (is_sequence u && not (has_sequence us)) ≡ b → (from_last_sequence us ≡ h ∷ w → is_sequence h ≡ true) → from_last_sequence (u ∷ us) ≡ h ∷ w → is_sequence h ≡ true
-unfolding from_last_sequence
-first_step u us h w true e ih is =
-    let own : u ∷ us ≡ h ∷ w = sym (rw e refl) ∙ is in
-    let one : u ≡ h = cc in
-    ap is_sequence (sym one) ∙ both (is_sequence u) (not (has_sequence us)) e
-  where
-    both : (a b : Bool) → (a && b) ≡ true → a ≡ true
-    both true b e = refl
-    both false b e = absurd cc
-first_step u us h w false e ih is = ih (sym (rw e refl) ∙ is)
-
-last_is : (us : Units) (h : List ℕ) (w : Units) → from_last_sequence us ≡ h ∷ w → is_sequence h ≡ true
-unfolding from_last_sequence
-last_is [] h w is = absurd cc
-last_is (u ∷ us) h w is = first_step u us h w (is_sequence u && not (has_sequence us)) refl (last_is us h w) is
-
-extensions_parts : (us : Units) → us ≡ extensions_first us ++ behind_extensions us
+pub extensions_parts : (us : Units) → us ≡ extensions_first us ++ behind_extensions us
 unfolding extensions_first behind_extensions
 extensions_parts [] = refl
 extensions_parts (u ∷ us) = elim (cases_Bool (is_extension u)) [ inl on ↦ rw on (ap (λ (l : Units). u ∷ l) (extensions_parts us)) | inr off ↦ rw off refl ]
 
-count_one : (u : List ℕ) (us : Units) → is_picture u ≡ false → picture_count (u ∷ us) ≡ picture_count us
+pub count_one : (u : List ℕ) (us : Units) → is_picture u ≡ false → picture_count (u ∷ us) ≡ picture_count us
 unfolding picture_count
 count_one u us off = rw off (omega arith)
 
-extensions_count : (us : Units) → picture_count (extensions_first us) ≡ 0
+pub extensions_count : (us : Units) → picture_count (extensions_first us) ≡ 0
 unfolding extensions_first picture_count
 extensions_count [] = refl
 extensions_count (u ∷ us) = elim (cases_Bool (is_extension u)) [
@@ -64,30 +39,55 @@ extensions_count (u ∷ us) = elim (cases_Bool (is_extension u)) [
   | inr off ↦ rw off refl
 ]
 
--- a head is units without a picture, before others and those of its span
+extensions_end : (us : Units) → has_end (extensions_first us) ≡ false
+unfolding extensions_first has_end is_end
+extensions_end [] = refl
+extensions_end (u ∷ us) = elim (cases_Bool (is_extension u)) [
+  | inl on ↦ rw on (rw (eqb-true (value_of u) 0xB5 on) (extensions_end us))
+  | inr off ↦ rw off refl
+]
+
+pub none_last : (us : Units) → has_sequence us ≡ false → from_last_sequence us ≡ []
+unfolding has_sequence from_last_sequence
+none_last [] off = refl
+none_last (u ∷ us) off = let p = or_parts (is_sequence u) (has_sequence us) off in rw (p.0) (none_last us p.1)
+
+-- a head is a sequence header and units without a picture, before others and those of its span
+pub record IsHead (bytes : List ℕ) (us : Units) : Type 0 where
+  pub hs : Units
+  pub ys : Units
+  pub is : bytes ≡ joined hs
+  pub are : AreUnits (hs ++ (ys ++ us))
+  pub begins : BeginsSequence hs
+  pub no_end : has_end hs ≡ false
+  pub none : picture_count hs ≡ 0
+
 abbrev pub HeadOf : Option (List ℕ) → Units → Type 0
 HeadOf None us = Unit {0}
-HeadOf (Some bytes) us = (hs : Units) × (ys : Units) × (bytes ≡ joined hs) × AreUnits (hs ++ (ys ++ us)) × (picture_count hs ≡ 0) × (1 ≤ length hs)
+HeadOf (Some bytes) us = IsHead bytes us
 
-head_by : (h : List ℕ) (w us : Units) (b : Bool) → (has_matrices (behind_extensions w) || not (nat_le (length (joined (h ∷ extensions_first w))) most_head)) ≡ b → is_sequence h ≡ true → AreUnits ((h ∷ w) ++ us) → HeadOf (if b then None else Some (joined (h ∷ extensions_first w))) us
-head_by h w us true e is are = tt
-head_by h w us false e is are = (
-  h ∷ extensions_first w,
-  behind_extensions w,
-  refl,
-  subst AreUnits (ap (λ (l : Units). (h ∷ l) ++ us) (extensions_parts w) ∙ append_assoc (h ∷ extensions_first w) (behind_extensions w) us) are,
-  count_one h (extensions_first w) (ap (λ (n : ℕ). nat_eq n 0x00) (eqb-true (value_of h) 0xB3 is)) ∙ extensions_count w,
-  omega arith,
-)
+head_by : (h : List ℕ) (w us : Units) (b : Bool) → is_sequence h ≡ true → AreUnits ((h ∷ w) ++ us) → HeadOf (if b then None else Some (joined (h ∷ extensions_first w))) us
+unfolding has_end is_end
+head_by h w us true is are = tt
+head_by h w us false is are = record {
+  hs = h ∷ extensions_first w;
+  ys = behind_extensions w;
+  is = refl;
+  are = subst AreUnits (ap (λ (l : Units). (h ∷ l) ++ us) (extensions_parts w) ∙ append_assoc (h ∷ extensions_first w) (behind_extensions w) us) are;
+  begins = is;
+  no_end = rw (eqb-true (value_of h) 0xB3 is) (extensions_end w);
+  none = count_one h (extensions_first w) (ap (λ (n : ℕ). nat_eq n 0x00) (eqb-true (value_of h) 0xB3 is)) ∙ extensions_count w;
+}
 
-head_from : (s us : Units) → ((h : List ℕ) (w : Units) → s ≡ h ∷ w → is_sequence h ≡ true) → AreUnits (s ++ us) → HeadOf (head_of s) us
-head_from [] us first are = tt
-head_from (h ∷ w) us first are = head_by h w us _ refl (first h w refl) are
-
-head_there : (before us : Units) → AreUnits (before ++ us) → HeadOf (head_of (from_last_sequence before)) us
-head_there before us are =
-    let x = last_suffix before in
-    head_from (from_last_sequence before) us (last_is before) (are_behind x.0 (from_last_sequence before ++ us) (subst AreUnits (ap (λ (l : Units). l ++ us) x.1 ∙ append_assoc x.0 (from_last_sequence before) us) are))
+pub head_there : (before us : Units) → AreUnits (before ++ us) → HeadOf (head_of (from_last_sequence before)) us
+head_there before us are = elim (cases_Bool (has_sequence before)) [
+  | inl on ↦
+      let x = last_found before on in
+      let own = x.h ∷ x.later in
+      let rest : AreUnits (own ++ us) = are_behind x.before (own ++ us) (subst AreUnits (ap (λ (l : Units). l ++ us) x.whole ∙ append_assoc x.before own us) are) in
+      subst (λ (l : Units). HeadOf (head_of l) us) (sym x.last) (head_by x.h x.later us _ x.is rest)
+  | inr off ↦ subst (λ (l : Units). HeadOf (head_of l) us) (sym (none_last before off)) tt
+]
 
 -- ---- spans
 
@@ -110,7 +110,7 @@ abbrev pub AllTame : List Span → Type 0
 AllTame [] = Unit {0}
 AllTame (s ∷ ss) = Tame s × AllTame ss
 
-sequence_append : (us vs : Units) → has_sequence us ≡ false → has_sequence vs ≡ false → has_sequence (us ++ vs) ≡ false
+pub sequence_append : (us vs : Units) → has_sequence us ≡ false → has_sequence vs ≡ false → has_sequence (us ++ vs) ≡ false
 unfolding has_sequence
 sequence_append [] vs a b = b
 sequence_append (u ∷ us) vs a b = let p = or_parts (is_sequence u) (has_sequence us) a in rw (p.0) (sequence_append us vs p.1 b)

@@ -11,7 +11,7 @@ use Rattle.m2v_law_seam.specs.Spans.{units_in, is_entry, is_anchor_piece, is_sec
 use Rattle.m2v_law_seam.specs.Mending.{Mending, nothing_yet, with_span, with_spans, strand_ended}
 use Rattle.m2v_law_seam.specs.Mends.{Steps, steps_in, steps_from, steps_of, all_pieces, without_ends}
 use Rattle.m2v_law_seam.proofs.Pieced.{pieced, units_joined}
-use Rattle.m2v_law_seam.proofs.Told.{units_append}
+use Rattle.m2v_law_seam.proofs.Told.{units_append, none_units}
 
 -- ---- pieces of steps, of spans and of stretches
 
@@ -112,10 +112,6 @@ stretches_step divide keeps u us place before mine true e are n ih =
     ∙ ap (λ (l : Units). mine ++ l) (ih at (before ++ mine) [] (are_behind mine (u ∷ us) are).3 tt))
 stretches_step divide keeps u us place before mine false e are n ih =
     rw e (ih place before (mine ++ u ∷ []) (subst AreUnits (sym (append_assoc mine (u ∷ []) us)) are) (more_goes mine u n e) ∙ append_assoc mine (u ∷ []) (without_ends us))
-
-none_units : units_in [] ≡ []
-unfolding units_in
-none_units = refl
 
 stretches_units : (divide : Dividing) → KeepsAll divide → (us : Units) (place : ℕ) (before mine : Units) → AreUnits (mine ++ us) → NoEnds mine → units_in (stretch_all (map (stretch_spans divide) (stretches_from place before mine us))) ≡ mine ++ without_ends us
 unfolding stretches_from without_ends

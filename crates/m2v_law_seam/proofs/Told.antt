@@ -126,6 +126,18 @@ module _ (of_gap : Gap → ℕ) (of_pieces : List (List ℕ) → ℕ) (none : of
 
 -- ---- pictures, and bytes
 
+pub none_units : units_in [] ≡ []
+unfolding units_in
+none_units = refl
+
+pub units_first : (p : List ℕ) (ps : List (List ℕ)) → units_in (p ∷ ps) ≡ units_of p ++ units_in ps
+unfolding units_in
+units_first p ps = refl
+
+pub units_one : (p : List ℕ) → units_in (p ∷ []) ≡ units_of p
+unfolding units_in
+units_one p = append-nil (units_of p)
+
 pub units_append : (ps qs : List (List ℕ)) → units_in (ps ++ qs) ≡ units_in ps ++ units_in qs
 unfolding units_in
 units_append [] qs = refl

@@ -15,10 +15,11 @@ use Rattle.m2v_model.specs.Pieces.{is_end, grouped}
 use Rattle.m2v_model.specs.ByPieces.{unit_read}
 use Rattle.m2v_model.proofs.CutLaws.{cut_cuts, cut_units, cuts_is, are_before, are_behind, joined-append}
 use Rattle.m2v_model.proofs.ShiftLaws.{BeginsPiece, NoEnds}
+use Rattle.m2v_model.proofs.PieceLaws.{no_ends-append}
 use Rattle.m2v_law_group.specs.Groups.{is_picture, is_sequence, has_picture, from_sequence, to_end, stream_units, coded_pictures, end_code}
 use Rattle.m2v_law_group.specs.Chosen.{EndClear}
 use Rattle.m2v_law_group.proofs.Runs.{Ends, finish, going}
-use Rattle.m2v_law_group.proofs.Lists.{or_parts, Behind, behind_begins, ended_units, no_ends_parts, first_sequence}
+use Rattle.m2v_law_group.proofs.Lists.{or_parts, Behind, behind_begins, ended_units, no_ends_parts, first_sequence, and_parts}
 use Rattle.m2v_law_group.proofs.Law.{skip}
 use Rattle.m2v_law_group.proofs.Decodes.{read_whole, end_other}
 use Rattle.m2v_law_seam.specs.Spans.{is_entry, is_anchor_piece, is_second, first_field, field_of, waits_behind, Stretch, stretches_from, stretches, stretch_spans, Span, spans, steps, divided, placed, spans_in}
@@ -31,7 +32,7 @@ use Rattle.m2v_law_seam.proofs.Pieced.{flat, AllBegin, Full, Quiet, Pieced, piec
 use Rattle.m2v_law_seam.proofs.Fields.{next_waits}
 use Rattle.m2v_law_seam.proofs.Boundary.{At, rest_last, at_first_piece}
 use Rattle.m2v_law_seam.proofs.Tame.{by_test, spans_first}
-use Rattle.m2v_law_seam.proofs.Same.{Led, Good, Ready, ready_first, past, has_first, full_behind, IsByFrames, AtIf, AllKnown, walk}
+use Rattle.m2v_law_seam.proofs.Same.{Led, Good, Ready, ready_first, past, has_first, full_behind, IsByFrames, AtIf, AllKnown, walk, pieces_begin}
 
 -- ---- bytes that don't end in the prefix of a start code
 
@@ -41,13 +42,9 @@ record OpenAt (w : List ℕ) : Type 0 where
 
 three_of : (a b c : ℕ) → (nat_eq a 0 && (nat_eq b 0 && nat_eq c 1)) ≡ true → a ∷ b ∷ c ∷ [] ≡ 0x00 ∷ 0x00 ∷ 0x01 ∷ []
 three_of a b c h =
-    let p = both (nat_eq a 0) (nat_eq b 0 && nat_eq c 1) h in
-    let q = both (nat_eq b 0) (nat_eq c 1) p.1 in
+    let p = and_parts (nat_eq a 0) (nat_eq b 0 && nat_eq c 1) h in
+    let q = and_parts (nat_eq b 0) (nat_eq c 1) p.1 in
     rw (eqb-true a 0 p.0, eqb-true b 0 q.0, eqb-true c 1 q.1) refl
-  where
-    both : (x y : Bool) → (x && y) ≡ true → (x ≡ true) × (y ≡ true)
-    both true y e = (refl, e)
-    both false y e = absurd cc
 
 open_at : (w : List ℕ) → ends_open w ≡ true → OpenAt w
 unfolding ends_open
@@ -87,7 +84,7 @@ record StartParts (us : Units) (h : List ℕ) (more : Units) : Type 0 where
   goes : NoEnds pre
   again : (w : Units) → from_sequence (pre ++ h ∷ w) ≡ h ∷ w
 
-own_first : (h : List ℕ) (w : Units) → is_sequence h ≡ true → from_sequence (h ∷ w) ≡ h ∷ w
+pub own_first : (h : List ℕ) (w : Units) → is_sequence h ≡ true → from_sequence (h ∷ w) ≡ h ∷ w
 unfolding from_sequence
 own_first h w is = rw is refl
 
@@ -152,9 +149,9 @@ record Body (text : List ℕ) : Type 0 where
   clear : EndClear (joined ((h ∷ pm) ++ rs))
   read : ReadOn ((h ∷ pm) ++ rs)
 
-no_end_first : (h : List ℕ) (more : Units) → is_sequence h ≡ true → to_end (h ∷ more) ≡ h ∷ to_end more
-unfolding to_end is_end
-no_end_first h more is = rw (eqb-true (value_of h) 0xB3 is) refl
+pub end_later : (u : List ℕ) (us : Units) → is_end (value_of u) ≡ false → to_end (u ∷ us) ≡ u ∷ to_end us
+unfolding to_end
+end_later u us off = rw off refl
 
 sequence_goes : (h : List ℕ) → is_sequence h ≡ true → is_end (value_of h) ≡ false
 unfolding is_end
@@ -163,10 +160,6 @@ sequence_goes h is = rw (eqb-true (value_of h) 0xB3 is) refl
 once_behind : (us : Units) (v : List ℕ) (ws : Units) → EndsOnce (us ++ v ∷ ws) → is_end (value_of v) ≡ true → ws ≡ []
 once_behind [] v ws h e = h.0 e
 once_behind (u ∷ us) v ws h e = once_behind us v ws h.1 e
-
-both_go : (us vs : Units) → NoEnds us → NoEnds vs → NoEnds (us ++ vs)
-both_go [] vs n m = m
-both_go (u ∷ us) vs n m = (n.0, both_go us vs n.1 m)
 
 end_of_behind : (rs : Units) (v : List ℕ) (ws : Units) → Behind rs → rs ≡ v ∷ ws → is_end (value_of v) ≡ true
 end_of_behind rs v ws b e = subst Behind e b
@@ -194,11 +187,11 @@ body_by text h more ps z rest starts once clear e ends paired =
       is = is;
       silent = i.silent;
       again = i.again;
-      goes = both_go i.pre (h ∷ pm) i.goes (sequence_goes h is, n.3);
+      goes = no_ends-append i.pre (h ∷ pm) i.goes (sequence_goes h is, n.3);
       goes_on = (sequence_goes h is, n.3);
       behind = n.2;
       once = λ v ws same. once_behind (i.pre ++ h ∷ pm) v ws (subst EndsOnce (whole ∙ ap (λ (l : Units). (i.pre ++ h ∷ pm) ++ l) same) once) (end_of_behind n.0 v ws n.2 same);
-      stream = ap to_end e ∙ no_end_first h more is;
+      stream = ap to_end e ∙ end_later h more (sequence_goes h is);
       clear = clear_behind ((cut 0 text).0 ++ joined i.pre) (joined ((h ∷ pm) ++ n.0)) (subst EndClear bytes clear);
       read = record { parts = ps; state = z; rest = rest; ends = subst (λ (l : Units). Ends at_first l ps z rest) more_is ends; paired = paired };
     }
@@ -336,11 +329,6 @@ silent_front (u ∷ pre) t off q h =
     let i = silent_front pre t p.1 (subst (λ (b : Bool). Quiet b (pre ++ t)) p.0 q.1) (rw (p.0) at h) in
     record { quiet = i.quiet; has = i.has; pictures = rw (p.0) (i.pictures) }
 
-begins_on : (q : List Units) (rs : Units) → AllBegin q → BeginsPiece rs → BeginsPiece (flat q ++ rs)
-begins_on [] rs b more = more
-begins_on ([] ∷ q) rs b more = absurd b.0
-begins_on ((v ∷ vs) ∷ q) rs b more = (b.0).0
-
 -- the state in which the second piece begins
 at_by : (text : List ℕ) (b : Body text) (x t : Units) (y : Units) (q : List Units) → b.h ∷ b.pm ≡ t ++ flat (y ∷ q) → x ≡ b.pre ++ t → AreUnits x → Quiet false x → has_picture x ≡ true → AllBegin (y ∷ q) → At (b.h ∷ b.pm) b.rs b.read (waits_behind 0 (joined x)) (flat (y ∷ q))
 unfolding waits_behind
@@ -351,7 +339,7 @@ at_by text b x (v ∷ t) y q e mine are quiet has begins =
     let one : b.h ≡ v = cc in
     let f = silent_front b.pre (v ∷ t) b.silent (subst (Quiet false) mine quiet) (ap has_picture (sym mine) ∙ has) in
     let goes = (no_ends_parts (v ∷ t) (flat (y ∷ q)) (subst NoEnds e b.goes_on)).0 in
-    let a = at_first_piece (b.h ∷ b.pm) b.rs b.read v t (flat (y ∷ q)) e (ap is_sequence (sym one) ∙ b.is) goes (begins_on (y ∷ q) b.rs begins (behind_begins b.rs b.behind)) f.quiet f.has in
+    let a = at_first_piece (b.h ∷ b.pm) b.rs b.read v t (flat (y ∷ q)) e (ap is_sequence (sym one) ∙ b.is) goes (pieces_begin (y ∷ q) b.rs begins (behind_begins b.rs b.behind)) f.quiet f.has in
     let field : field_of (joined x) ≡ first_field (coded_pictures (v ∷ t)) = ap (λ (l : Units). first_field (coded_pictures l)) (cut_units x are ∙ mine) ∙ ap first_field f.pictures in
     subst (λ (n : ℕ). At (b.h ∷ b.pm) b.rs b.read (next_waits 0 n) (flat (y ∷ q))) (sym field) a
 
