@@ -1,6 +1,7 @@
 -- The groups of the answer are those of the spans that are kept, and of all spans.
-use Rattle.std.proofs.Common.{◌≡◌, ℕ, ◌+◌, Bool, true, false, List, [], ◌∷◌, ◌++◌, Option, Some, None, refl, sym, ap, ◌∙◌, arith}
-use Rattle.std.specs.Prelude.{◌||◌, if◌then◌else◌}
+use Rattle.std.proofs.Common.{◌≡◌, ℕ, ◌+◌, Bool, true, false, List, [], ◌∷◌, ◌++◌, Option, Some, None, refl, sym, ap, ◌∙◌, arith, inl, inr}
+use Rattle.std.proofs.lemmas.Bool.{cases_Bool, lt-ltb}
+use Rattle.std.specs.Prelude.{◌||◌, if◌then◌else◌, nat_lt}
 use Rattle.m2v_model.specs.Units.{Units}
 use Rattle.m2v_law_group.specs.Groups.{is_picture, has_picture}
 use Rattle.m2v_law_seam.specs.Spans.{units_in, picture_count, Dividing, Span, spans_in}
@@ -125,14 +126,16 @@ groups_there divide text = let e = stretches_all (spans_in divide text) nothing_
 
 -- ---- where no picture is left out, no group is
 
-no_first : (us : Units) (b : Bool) → (if b then 1 else 0) + picture_count us ≡ 0 → (picture_count us ≡ 0 → has_picture us ≡ false) → b || has_picture us ≡ false
-no_first us true e h = absurd (omega (arith, e))
-no_first us false e h = h (omega (arith, e))
+pub picture_is : (us : Units) → has_picture us ≡ nat_lt 0 (picture_count us)
+unfolding has_picture picture_count
+picture_is [] = refl
+picture_is (u ∷ us) = elim (cases_Bool (is_picture u)) [
+  | inl on ↦ rw on (sym (lt-ltb 0 (1 + picture_count us) (omega arith)))
+  | inr off ↦ let none : 0 + picture_count us ≡ picture_count us = omega arith in rw (off, none) (picture_is us)
+]
 
 pub no_picture : (us : Units) → picture_count us ≡ 0 → has_picture us ≡ false
-unfolding picture_count has_picture
-no_picture [] e = refl
-no_picture (u ∷ us) e = no_first us (is_picture u) e (no_picture us)
+no_picture us e = picture_is us ∙ ap (nat_lt 0) e
 
 no_group : (n : ℕ) (s : Span) (b : Bool) → begins_entry s.pieces ≡ b → picture_count (units_in s.pieces) ≡ 0 → groups_behind n s ≡ n
 no_group n s true h e = rw h (rw (no_picture (units_in s.pieces) e) refl)

@@ -208,7 +208,7 @@ second_read first second ha hb pa pb x y is rule joint =
 
 -- ---- both strands
 
-pub sequence_begins : (u : List ℕ) → is_sequence u ≡ true → begins_piece (value_of u) ≡ true
+sequence_begins : (u : List ℕ) → is_sequence u ≡ true → begins_piece (value_of u) ≡ true
 unfolding begins_piece
 sequence_begins u is = rw (eqb-true (value_of u) 0xB3 is) refl
 

@@ -4,8 +4,6 @@ use Rattle.std.specs.Prelude.{nat_eq, is_some, ◌||◌, if◌then◌else◌}
 use Rattle.std.proofs.lemmas.Bool.{cases_Bool, both_ways}
 use Rattle.std.proofs.lemmas.List.{map-append, take-append-drop}
 use Rattle.m2v_model.specs.Units.{Units, cut, joined, AreUnits}
-use Rattle.m2v_model.specs.Streams.{value_of}
-use Rattle.m2v_model.specs.Pieces.{begins_piece}
 use Rattle.m2v_model.proofs.CutLaws.{cut_units, are_before, are_behind, joined-append}
 use Rattle.m2v_law_group.specs.Groups.{is_picture, is_sequence, has_sequence, from_sequence}
 use Rattle.m2v_law_group.proofs.Lists.{or_parts}
@@ -15,11 +13,10 @@ use Rattle.m2v_law_seam.specs.Strands.{reads}
 use Rattle.m2v_law_seam.specs.Faults.{has_head}
 use Rattle.m2v_law_seam.proofs.Strand.{own_units}
 use Rattle.m2v_law_seam.proofs.Chain.{reads_as}
-use Rattle.m2v_law_seam.proofs.Pieced.{flat, Quiet, all_units, units_joined}
+use Rattle.m2v_law_seam.proofs.Pieced.{flat, Quiet, all_units, units_joined, plain_unit}
 use Rattle.m2v_law_seam.proofs.Edited.{KeepsUnits, mapped_units, mapped_count, lowered_keeps, marked_keeps, behind_units, place_units, without_middle}
 use Rattle.m2v_law_seam.proofs.Told.{count_append, units_append, b_parts}
 use Rattle.m2v_law_seam.proofs.Tame.{HeadOf, Tame, sequence_append}
-use Rattle.m2v_law_seam.proofs.Joint.{sequence_begins}
 
 -- ---- from the first sequence header on
 
@@ -27,8 +24,8 @@ quiet_none : (us : Units) → Quiet true us → has_sequence us ≡ false
 unfolding has_sequence
 quiet_none [] q = refl
 quiet_none (u ∷ us) q =
-    let off : is_sequence u ≡ false = elim (cases_Bool (is_sequence u)) [ inl on ↦ absurd (both_ways (begins_piece (value_of u)) (q.0 refl) (sequence_begins u on)) | inr off ↦ off ] in
-    rw off (quiet_none us q.1)
+    let off = plain_unit u (q.0 refl) in
+    rw (off.1) (quiet_none us q.1)
 
 from_step : (u : List ℕ) (us f : Units) (s p : Bool) → is_sequence u ≡ s → is_picture u ≡ p → Quiet (false || p) us → has_sequence (u ∷ us) ≡ true → (Quiet false us → has_sequence us ≡ true → (from_sequence (us ++ f) ≡ from_sequence us ++ f) × (picture_count (from_sequence us) ≡ picture_count us))
     → (from_sequence (u ∷ (us ++ f)) ≡ from_sequence (u ∷ us) ++ f) × (picture_count (from_sequence (u ∷ us)) ≡ picture_count (u ∷ us))
@@ -52,7 +49,7 @@ unfolding from_sequence has_sequence
 none_from [] h = refl
 none_from (u ∷ us) h = let p = or_parts (is_sequence u) (has_sequence us) h in rw (p.0) (none_from us p.1)
 
-from_suffix : (us : Units) → (front : Units) × (us ≡ front ++ from_sequence us)
+pub from_suffix : (us : Units) → (front : Units) × (us ≡ front ++ from_sequence us)
 unfolding from_sequence
 from_suffix [] = ([], refl)
 from_suffix (u ∷ us) = elim (cases_Bool (is_sequence u)) [ inl on ↦ rw on ([], refl) | inr off ↦ let i = from_suffix us in rw off (u ∷ i.0, ap (λ (l : Units). u ∷ l) i.1) ]
@@ -146,10 +143,10 @@ later_bytes low (p ∷ ps) =
     ∙ ap joined (sym (map-append (lowered_unit low) (units_of p) (units_in ps)))
 
 -- pieces behind the first one, without the leading ones
-abbrev behind_first : ℕ → List (List ℕ) → List (List ℕ)
+abbrev pub behind_first : ℕ → List (List ℕ) → List (List ℕ)
 behind_first n ps = take n ps ++ behind_b (drop n ps)
 
-first_field : (p : List ℕ) (ps : List (List ℕ)) (b : Bool) → nat_eq (field_of p) 0 ≡ b → (n : ℕ) × (without_leading_pieces (p ∷ ps) ≡ p ∷ behind_first n ps)
+pub first_field : (p : List ℕ) (ps : List (List ℕ)) (b : Bool) → nat_eq (field_of p) 0 ≡ b → (n : ℕ) × (without_leading_pieces (p ∷ ps) ≡ p ∷ behind_first n ps)
 first_field p ps true e = (0, rw e refl)
 first_field p ps false e = (1, rw e refl)
 

@@ -294,22 +294,22 @@ units_joined (x ∷ q) are = ap (λ (l : Units). l ++ units_in (map joined q)) (
 
 -- ---- entries
 
+-- a unit that begins no piece
+pub plain_unit : (u : List ℕ) → begins_piece (value_of u) ≡ false → (is_picture u ≡ false) × (is_sequence u ≡ false) × (is_group u ≡ false)
+unfolding begins_piece
+plain_unit u off =
+    let d = or_parts (is_picture u || is_sequence u || nat_eq (value_of u) 0xB7) (is_group u) off in
+    let c = or_parts (is_picture u || is_sequence u) (nat_eq (value_of u) 0xB7) d.0 in
+    let a = or_parts (is_picture u) (is_sequence u) c.0 in
+    (a.0, a.1, d.1)
+
 plain_none : (us : Units) → Plain us → (has_sequence us ≡ false) × (group_headers us ≡ 0)
-unfolding has_sequence group_headers begins_piece
+unfolding has_sequence group_headers
 plain_none [] p = (refl, refl)
 plain_none (u ∷ us) p =
     let i = plain_none us p.1 in
-    let off = others (nat_eq (value_of u) 0x00) (nat_eq (value_of u) 0xB3) (nat_eq (value_of u) 0xB7) (nat_eq (value_of u) 0xB8) p.0 in
-    (rw (off.0) i.0, rw (off.1) (omega (arith, i.1)))
-  where
-    others : (a b c d : Bool) → (a || b || c || d) ≡ false → (b ≡ false) × (d ≡ false)
-    others true b c d e = absurd (first b c d e)
-      where
-        first : (b c d : Bool) → (true || b || c || d) ≡ false → ⊥
-        first b c d e = absurd cc
-    others false true c d e = absurd cc
-    others false false true d e = absurd cc
-    others false false false d e = (refl, e)
+    let off = plain_unit u p.0 in
+    (rw (off.1) i.0, rw (off.2) (omega (arith, i.1)))
 
 -- a piece behind others that is an entry doesn't begin with a picture
 pub entry_other : (v : List ℕ) (vs : Units) → AreUnits (v ∷ vs) → BeginsOne (v ∷ vs) → is_entry (joined (v ∷ vs)) ≡ true → is_picture v ≡ false

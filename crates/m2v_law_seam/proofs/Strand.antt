@@ -150,7 +150,7 @@ pub code_begins : BeginsPiece (end_code ∷ [])
 unfolding begins_piece
 code_begins = refl
 
-code_behind : Behind (end_code ∷ [])
+pub code_behind : Behind (end_code ∷ [])
 unfolding is_end
 code_behind = refl
 

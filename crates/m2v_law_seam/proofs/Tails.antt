@@ -1,9 +1,9 @@
 -- Bytes that end in the prefix of a start code, by their last three.
 use Rattle.std.proofs.Common.{◌≡◌, ℕ, zero, suc, ◌-◌, ◌≤◌, Bool, true, false, List, [], ◌∷◌, ◌++◌, length, drop, refl, sym, ap, ◌∙◌, arith}
 use Rattle.std.specs.Prelude.{nat_eq, nat_le, ◌&&◌, ◌||◌, replicate}
-use Rattle.std.proofs.lemmas.Bool.{le-leb}
+use Rattle.std.proofs.lemmas.Bool.{le-leb, and_right}
 use Rattle.std.proofs.lemmas.List.{length-append}
-use Rattle.std.proofs.Math.Bool.{or-false}
+use Rattle.std.proofs.Math.Bool.{or-false, and-false}
 use Rattle.m2v_law_seam.specs.Strands.{is_prefix, ends_open}
 
 long_prefix : (a b c d : ℕ) (w : List ℕ) → is_prefix (a ∷ b ∷ c ∷ d ∷ w) ≡ false
@@ -58,16 +58,11 @@ unfolding ends_open
 zeros_open zero = refl
 zeros_open (suc n) = ap (λ (t : Bool). t || ends_open (replicate n 0)) (zeros_prefix (suc n)) ∙ zeros_open n
 
-and_false : (a b : Bool) → (a && (b && false)) ≡ false
-and_false true true = refl
-and_false true false = refl
-and_false false b = refl
-
 front_prefix : (a : ℕ) (w : List ℕ) (n : ℕ) → is_prefix (a ∷ (w ++ replicate (suc n) 0)) ≡ false
 front_prefix a [] zero = refl
-front_prefix a [] (suc zero) = and_false (nat_eq a 0) true
+front_prefix a [] (suc zero) = and-false (nat_eq a 0)
 front_prefix a [] (suc (suc n)) = refl
-front_prefix a (b ∷ []) zero = and_false (nat_eq a 0) (nat_eq b 0)
+front_prefix a (b ∷ []) zero = and_right (nat_eq a 0) (nat_eq b 0 && false) (and-false (nat_eq b 0))
 front_prefix a (b ∷ []) (suc n) = refl
 front_prefix a (b ∷ c ∷ []) n = refl
 front_prefix a (b ∷ c ∷ d ∷ w) n = refl

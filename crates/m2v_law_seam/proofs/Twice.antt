@@ -3,6 +3,7 @@ use Rattle.std.proofs.Common.{◌≡◌, ℕ, Bool, true, false, List, [], ◌�
 use Rattle.m2v_model.specs.Units.{Units, cut, joined, Cuts}
 use Rattle.m2v_model.specs.Decoding.{Decodes}
 use Rattle.m2v_model.specs.Pieces.{is_end}
+use Rattle.m2v_model.specs.Streams.{value_of}
 use Rattle.m2v_model.proofs.CutLaws.{cuts_is}
 use Rattle.m2v_model.proofs.ShiftLaws.{NoEnds}
 use Rattle.m2v_law_group.specs.Groups.{from_sequence, to_end, stream_units, end_code}
@@ -12,9 +13,9 @@ use Rattle.std.specs.Prelude.{not, ◌&&◌, ◌||◌}
 use Rattle.m2v_law_seam.specs.Spans.{is_entry, is_anchor_piece, is_second, spans, steps}
 use Rattle.m2v_law_seam.specs.Mending.{strands}
 use Rattle.m2v_law_seam.specs.Mends.{in_turn, StartsClear, EndsOnce, MendTwice}
-use Rattle.m2v_law_seam.proofs.Strand.{StrandUnits}
+use Rattle.m2v_law_seam.proofs.Strand.{StrandUnits, code_behind}
 use Rattle.m2v_law_seam.proofs.Fold.{mended_as}
-use Rattle.m2v_law_seam.proofs.Whole.{same_by_test, by_entries, by_frames, own_first, end_later}
+use Rattle.m2v_law_seam.proofs.Whole.{same_by_test, by_entries, by_frames, own_first, end_later, end_here}
 use Rattle.m2v_law_seam.proofs.Same.{IsByFrames}
 use Rattle.m2v_law_seam.proofs.Tame.{by_test}
 
@@ -24,13 +25,9 @@ ends_once : (us : Units) → NoEnds us → EndsOnce (us ++ end_code ∷ [])
 ends_once [] n = (λ on. refl, tt)
 ends_once (u ∷ us) n = (λ on. let wrong : true ≡ false = sym on ∙ n.0 in absurd cc, ends_once us n.1)
 
-code_ends : to_end (end_code ∷ []) ≡ []
-unfolding to_end is_end
-code_ends = refl
-
-up_to_end : (us : Units) → NoEnds us → to_end (us ++ end_code ∷ []) ≡ us
-up_to_end [] n = code_ends
-up_to_end (u ∷ us) n = end_later u (us ++ end_code ∷ []) n.0 ∙ ap (λ (l : Units). u ∷ l) (up_to_end us n.1)
+pub up_to_end : (us : Units) (e : List ℕ) → NoEnds us → is_end (value_of e) ≡ true → to_end (us ++ e ∷ []) ≡ us
+up_to_end [] e n on = end_here e [] on
+up_to_end (u ∷ us) e n on = end_later u (us ++ e ∷ []) n.0 ∙ ap (λ (l : Units). u ∷ l) (up_to_end us e n.1 on)
 
 -- ---- the last byte
 
@@ -64,7 +61,7 @@ whole_by own u =
     let us = u.h ∷ u.pm in
     let cuts : Cuts (own ++ end_code) [] (us ++ end_code ∷ []) = subst (λ (l : List ℕ). Cuts (l ++ end_code) [] (us ++ end_code ∷ [])) (sym u.whole) (texts.cut_cuts us u.ended) in
     let units : (cut 0 (own ++ end_code)).1 ≡ us ++ end_code ∷ [] = ap (λ (x : List ℕ × Units). x.1) (cuts_is (own ++ end_code) [] (us ++ end_code ∷ []) cuts) in
-    let stream : stream_units (own ++ end_code) ≡ us = ap (λ (l : Units). to_end (from_sequence l)) units ∙ ap to_end (own_first u.h (u.pm ++ end_code ∷ []) u.is) ∙ up_to_end us u.goes in
+    let stream : stream_units (own ++ end_code) ≡ us = ap (λ (l : Units). to_end (from_sequence l)) units ∙ ap to_end (own_first u.h (u.pm ++ end_code ∷ []) u.is) ∙ up_to_end us end_code u.goes code_behind in
     record {
       starts = subst StartsClear (sym units) (inl u.is);
       once = subst EndsOnce (sym units) (ends_once us u.goes);

@@ -149,6 +149,10 @@ record Body (text : List ℕ) : Type 0 where
   clear : EndClear (joined ((h ∷ pm) ++ rs))
   read : ReadOn ((h ∷ pm) ++ rs)
 
+pub end_here : (u : List ℕ) (us : Units) → is_end (value_of u) ≡ true → to_end (u ∷ us) ≡ []
+unfolding to_end
+end_here u us on = rw on refl
+
 pub end_later : (u : List ℕ) (us : Units) → is_end (value_of u) ≡ false → to_end (u ∷ us) ≡ u ∷ to_end us
 unfolding to_end
 end_later u us off = rw off refl
