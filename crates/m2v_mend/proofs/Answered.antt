@@ -2,6 +2,7 @@
 use Rattle.std.proofs.Common.{◌≡◌, inr, ℕ, ◌+◌, ◌-◌, ◌*◌, ◌≤◌, Bool, true, false, cond, List, [], ◌∷◌, ◌++◌, length, Option, Some, None, Ok, Err, refl, sym, ap, subst, ◌∙◌, append-nil, arith}
 use Rattle.std.specs.Prelude.{not, is_none, is_some, ◌&&◌, ◌||◌, if◌then◌else◌}
 use Rattle.std.proofs.lemmas.List.{length-append}
+use Rattle.std.proofs.Math.Bool.{and-false, or-true}
 use Rattle.m2v_model.specs.declared.fault.FaultKind.TheVariants.{FieldPair, Truncated, MissingReference}
 use Rattle.m2v_model.specs.declared.state.Sequence.{Sequence}
 use Rattle.m2v_model.specs.declared.state.FirstField.{FirstField}
@@ -11,13 +12,13 @@ use Rattle.m2v_model.specs.States.{none_waits}
 use Rattle.m2v_model.specs.Pictures.{Events, pictures_in}
 use Rattle.m2v_model.specs.ByPieces.{Between, at_start, behind, units_read, end_read}
 use Rattle.m2v_model.proofs.EventLaws.{pictures_in-append}
+use Rattle.m2v_model.proofs.PieceLaws.{no_ends-append}
 use Rattle.m2v_law_seam.specs.Spans.{units_of, units_in, Span, end_of_span}
 use Rattle.m2v_law_seam.specs.Strands.{all_stand, last_open, agrees, is_strand}
 use Rattle.m2v_law_seam.specs.Faults.{standing, read_at, fault_by, fault_behind}
 use Rattle.m2v_law_seam.specs.Reading.{ended_read, CanGrow, is_strand_read, CanGoBehind, HasRead}
 use Rattle.m2v_law_seam.specs.Strands as strands
 use Rattle.m2v_law_seam.proofs.ByUnits.{stand_append, read_alone}
-use Rattle.m2v_law_seam.proofs.Reading.{both_go}
 use Rattle.m2v_decode.specs.m2v_dec_piece.declared.answer.Piece.{Piece}
 use Rattle.m2v_decode.specs.m2v_dec_piece.declared.answer.Fault.{Fault}
 use Rattle.m2v_decode.specs.Decoding.{Decoding, between}
@@ -106,14 +107,6 @@ module _ (bytes : List ℕ) (es : Events) (d : Decoding) (s : StrandState) (firs
   own_stand : (t : Bool) → s.opening ≡ false → stands ≡ t → all_stand s.standing.anchors (pictures_in r.events) ≡ t
   own_stand t other et = ap (λ (b : Bool). b && all_stand s.standing.anchors (pictures_in r.events)) (sym (before_stand other)) ∙ sym parts_stand ∙ et
 
-  and_off : (b : Bool) → (b && false) ≡ false
-  and_off true = refl
-  and_off false = refl
-
-  or_on : (b : Bool) → (b || true) ≡ true
-  or_on true = refl
-  or_on false = refl
-
   none_broken : (o : Option ℕ) → is_none o ≡ true → o ≡ None
   none_broken None h = refl
   none_broken (Some n) h = absurd cc
@@ -133,7 +126,7 @@ module _ (bytes : List ℕ) (es : Events) (d : Decoding) (s : StrandState) (firs
       let read : strands.read_of all ≡ Ok (es ++ r.events, between e) =
       read_alone all a.begins a.no_end closed ∙ ap (ended_read (8 * length all)) r.read
       ∙ ap (λ (w : Bool). cond w (Ok (es ++ r.events, between e)) (Err (FieldPair, 8 * length all))) paired in
-      let goes = both_go (units_of bytes) (units_in (wholes_of ps)) a.goes a.own in
+      let goes = no_ends-append (units_of bytes) (units_in (wholes_of ps)) a.goes a.own in
       rule_placed span bytes ps es r.events (between d) (between e) at s.standing.anchors can a.are come.has a.goes r.has goes a.units closed read (before_stand other) come.anchors (own_stand false other off) turn ends
       ∙ ap (λ (i : ℕ). (MissingReference, i)) (sym (place_told place other off is))
 
@@ -148,7 +141,7 @@ module _ (bytes : List ℕ) (es : Events) (d : Decoding) (s : StrandState) (firs
   -- a picture may not stand
   rule_told : (place : ℕ) (j : Bool) → none_waits e.state.waiting ≡ true → s.opening ≡ false → stands ≡ false → agrees first e.state.first ≡ j → z.standing.broken ≡ Some place → Told d s first bytes ps (Some (refusals.Rule place)) z
   rule_told place j paired other off joint is = (
-    strand_by_values true j false paired joint off ∙ ap (λ (b : Bool). j && (b || false)) other ∙ and_off j,
+    strand_by_values true j false paired joint off ∙ ap (λ (b : Bool). j && (b || false)) other ∙ and-false j,
     (
       closed,
       other,
@@ -166,7 +159,7 @@ module _ (bytes : List ℕ) (es : Events) (d : Decoding) (s : StrandState) (firs
   other_stands true e h = ap (λ (b : Bool). b || all_stand s.standing.anchors (pictures_in r.events)) e
   other_stands false e h =
       let on : stands ≡ true = rw e at h in
-      ap (λ (b : Bool). s.opening || b) (own_stand true e on) ∙ or_on s.opening
+      ap (λ (b : Bool). s.opening || b) (own_stand true e on) ∙ or-true s.opening
 
   other_told : none_waits e.state.waiting ≡ true → (s.opening || stands) ≡ true → agrees first e.state.first ≡ false → Told d s first bytes ps (Some refusals.Other) z
   other_told paired kept joint = (
@@ -199,7 +192,7 @@ module _ (bytes : List ℕ) (es : Events) (d : Decoding) (s : StrandState) (firs
 
   rule_kept : (o : Bool) (b : Option ℕ) → s.opening ≡ o → z.standing.broken ≡ b → broken_rule o b ≡ None → (s.opening || stands) ≡ true
   rule_kept true b eo eb none = ap (λ (x : Bool). x || stands) eo
-  rule_kept false None eo eb none = ap (λ (x : Bool). s.opening || x) (sym (r.come).stands ∙ ap is_none eb) ∙ or_on s.opening
+  rule_kept false None eo eb none = ap (λ (x : Bool). s.opening || x) (sym (r.come).stands ∙ ap is_none eb) ∙ or-true s.opening
   rule_kept false (Some place) eo eb none = absurd cc
 
   kept_told : (j : Bool) → none_waits e.state.waiting ≡ true → (s.opening || stands) ≡ true → agrees first e.state.first ≡ j → Told d s first bytes ps (refusal_by false None j end) z

@@ -13,6 +13,8 @@ use Rattle.m2v_model.proofs.CutLaws.{cut_cuts, cuts_is, joined-append, are_befor
 use Rattle.m2v_model.proofs.PieceLaws.{value_code}
 use Rattle.m2v_model.proofs.ShiftLaws.{NoEnds}
 use Rattle.m2v_law_seam.proofs.There.{more_goes}
+use Rattle.m2v_law_seam.proofs.Whole.{end_here, end_later}
+use Rattle.m2v_law_seam.proofs.Twice.{up_to_end}
 use Rattle.m2v_law_group.specs.Groups.{to_end}
 use Rattle.m2v_mend.specs.Feeding.{bare, bare_pieces}
 
@@ -22,19 +24,6 @@ before_none : (vs : Units) → NoEnds vs → to_end vs ≡ vs
 unfolding to_end
 before_none [] n = refl
 before_none (v ∷ vs) n = rw (n.0) (ap (λ (l : Units). v ∷ l) (before_none vs n.1))
-
-before_code : (vs : Units) (e : List ℕ) → NoEnds vs → is_end (value_of e) ≡ true → to_end (vs ++ e ∷ []) ≡ vs
-unfolding to_end
-before_code [] e n on = rw on refl
-before_code (v ∷ vs) e n on = rw (n.0) (ap (λ (l : Units). v ∷ l) (before_code vs e n.1 on))
-
-before_on : (u : List ℕ) (us : Units) → is_end (value_of u) ≡ true → to_end (u ∷ us) ≡ []
-unfolding to_end
-before_on u us on = rw on refl
-
-before_off : (u : List ℕ) (us : Units) → is_end (value_of u) ≡ false → to_end (u ∷ us) ≡ u ∷ to_end us
-unfolding to_end
-before_off u us off = rw off refl
 
 -- ---- bytes before the first unit
 
@@ -64,14 +53,15 @@ pub at_clear : (j : List ℕ) (vs us : Units) → Clear 0 j (joined (vs ++ us)) 
 at_clear j vs us h = clear_before j (joined vs) (joined us) (subst (Clear 0 j) (joined-append vs us) h)
 
 -- a piece that ends before other units
+pub front_cuts : (j : List ℕ) (vs us : Units) → At j vs us → Cuts (j ++ joined vs) j vs
+front_cuts j vs us at = record { whole = refl; front_clear = at_clear j vs us at.clear; are_units = are_before vs us at.are }
+
 pub bare_front : (j : List ℕ) (vs us : Units) → At j vs us → bare (j ++ joined vs) ≡ joined vs
-bare_front j vs us at =
-    let cuts : Cuts (j ++ joined vs) j vs = record { whole = refl; front_clear = at_clear j vs us at.clear; are_units = are_before vs us at.are } in
-    ap (λ (x : List ℕ × Units). joined (to_end x.1)) (cuts_is (j ++ joined vs) j vs cuts) ∙ ap joined (before_none vs at.none)
+bare_front j vs us at = ap (λ (x : List ℕ × Units). joined (to_end x.1)) (cuts_is (j ++ joined vs) j vs (front_cuts j vs us at)) ∙ ap joined (before_none vs at.none)
 
 -- one that ends with an end code
-pub bare_code : (j : List ℕ) (vs : Units) (u : List ℕ) (us : Units) → At j vs (u ∷ us) → is_end (value_of u) ≡ true → bare ((j ++ joined vs) ++ take 4 u) ≡ joined vs
-bare_code j vs u us at on =
+pub code_cuts : (j : List ℕ) (vs : Units) (u : List ℕ) (us : Units) → At j vs (u ∷ us) → Cuts ((j ++ joined vs) ++ take 4 u) j (vs ++ take 4 u ∷ [])
+code_cuts j vs u us at =
     let code = vs ++ take 4 u ∷ [] in
     let same : joined code ≡ joined vs ++ take 4 u = joined-append vs (take 4 u ∷ []) ∙ ap (λ (l : List ℕ). joined vs ++ l) (append-nil (take 4 u)) in
     let bytes : (j ++ joined vs) ++ take 4 u ≡ j ++ joined code = append_assoc j (joined vs) (take 4 u) ∙ ap (λ (l : List ℕ). j ++ l) (sym same) in
@@ -81,13 +71,16 @@ bare_code j vs u us at on =
     ∙ ap (λ (l : List ℕ). joined vs ++ l) (append_assoc (take 4 u) (drop 4 u) (joined us))
     ∙ sym (append_assoc (joined vs) (take 4 u) (drop 4 u ++ joined us))
     ∙ ap (λ (l : List ℕ). l ++ (drop 4 u ++ joined us)) (sym same) in
-    let cuts : Cuts ((j ++ joined vs) ++ take 4 u) j code = record {
+    record {
       whole = bytes;
       front_clear = clear_before j (joined code) (drop 4 u ++ joined us) (subst (Clear 0 j) whole at.clear);
       are_units = are_code vs us u at.are;
-    } in
+    }
+
+pub bare_code : (j : List ℕ) (vs : Units) (u : List ℕ) (us : Units) → At j vs (u ∷ us) → is_end (value_of u) ≡ true → bare ((j ++ joined vs) ++ take 4 u) ≡ joined vs
+bare_code j vs u us at on =
     let last : is_end (value_of (take 4 u)) ≡ true = ap is_end (value_code u) ∙ on in
-    ap (λ (x : List ℕ × Units). joined (to_end x.1)) (cuts_is _ j code cuts) ∙ ap joined (before_code vs (take 4 u) at.none last)
+    ap (λ (x : List ℕ × Units). joined (to_end x.1)) (cuts_is _ j (vs ++ take 4 u ∷ []) (code_cuts j vs u us at)) ∙ ap joined (up_to_end vs (take 4 u) at.none last)
 
 -- ---- pieces
 
@@ -174,12 +167,12 @@ unfolding grouped
 in_headers u us j vs at later =
     elim (cases_Bool (is_end (value_of u))) [
       | inl on ↦
-          rw (on, before_on u us on) (bare_one_piece ((j ++ joined vs) ++ take 4 u) ∙ ap piece_of (bare_code j vs u us at on))
+          rw (on, end_here u us on) (bare_one_piece ((j ++ joined vs) ++ take 4 u) ∙ ap piece_of (bare_code j vs u us at on))
       | inr off ↦
           let phase = phase_after Headers (value_of u) in
           let le = unit_long vs u us at.are in
           let next = later phase j (vs ++ u ∷ []) (open_after (value_of u) (joined (vs ++ u ∷ [])) (long_more vs u le)) (at_more j vs u us at off) in
-          rw (off, before_off u us off, off) (by_growth phase j vs u us next)
+          rw (off, end_later u us off, off) (by_growth phase j vs u us next)
     ]
 
 -- behind it
@@ -191,7 +184,7 @@ in_picture u us j vs some at later =
       | inl on ↦
           let alone : At [] [] (u ∷ us) = record { clear = λ i le lt. absurd (omega (arith, lt)); are = are_behind vs (u ∷ us) at.are; none = tt } in
           let code : bare (take 4 u) ≡ [] = bare_code [] [] u us alone on in
-          rw (on, before_on u us on) (bare_first (j ++ joined vs) (take 4 u ∷ [])
+          rw (on, end_here u us on) (bare_first (j ++ joined vs) (take 4 u ∷ [])
           ∙ ap (λ (l : List (List ℕ)). piece_of (bare (j ++ joined vs)) ++ l) (bare_one_piece (take 4 u) ∙ ap piece_of code)
           ∙ append-nil (piece_of (bare (j ++ joined vs)))
           ∙ ap piece_of (bare_front j vs (u ∷ us) at))
@@ -202,14 +195,14 @@ in_picture u us j vs some at later =
             let one : u ++ [] ≡ u = append-nil u in
             let next = later phase [] (u ∷ []) (open_after (value_of u) (joined (u ∷ [])) (omega (arith, le, ap length one))) (at_begin vs u us at.are off) in
             let next' : bare_pieces (grouped phase u us) ≡ grouped phase u (to_end us) = subst (λ (x : List ℕ). bare_pieces (grouped phase x us) ≡ grouped phase x (to_end us)) one next in
-            rw (off, before_off u us off, off, on) (bare_first (j ++ joined vs) (grouped phase u us)
+            rw (off, end_later u us off, off, on) (bare_first (j ++ joined vs) (grouped phase u us)
             ∙ ap (λ (w : List ℕ). piece_of w ++ bare_pieces (grouped phase u us)) (bare_front j vs (u ∷ us) at)
             ∙ ap (λ (l : List (List ℕ)). l ++ bare_pieces (grouped phase u us)) (some_piece (joined vs) some)
             ∙ ap (λ (l : List (List ℕ)). joined vs ∷ l) next')
         | inr none ↦
             let le = unit_long vs u us at.are in
             let next = later Picture j (vs ++ u ∷ []) (long_more vs u le) (at_more j vs u us at off) in
-            rw (off, before_off u us off, off, none) (by_growth Picture j vs u us next)
+            rw (off, end_later u us off, off, none) (by_growth Picture j vs u us next)
       ]
     ]
 

@@ -17,7 +17,7 @@ use Rattle.m2v_law_group.specs.Chosen.{anchors_behind}
 use Rattle.m2v_law_seam.specs.Spans.{units_of, units_in, picture_count, Span, end_of_span}
 use Rattle.m2v_law_seam.specs.Strands.{may_stand, all_stand, last_open}
 use Rattle.m2v_law_seam.specs.Strands as strands
-use Rattle.m2v_law_seam.specs.Faults.{before_picture, standing, ends_from, read_at, fault_behind}
+use Rattle.m2v_law_seam.specs.Faults.{before_picture, standing, read_at, fault_behind}
 use Rattle.m2v_law_seam.specs.Reading.{ArePieces, CanGrow, CanGoBehind, HasRead, anchors_after}
 use Rattle.m2v_law_seam.proofs.Told.{count_append}
 use Rattle.m2v_law_seam.proofs.Strand.{strand_units}
@@ -27,6 +27,7 @@ use Rattle.m2v_decode.specs.m2v_dec_piece.declared.answer.Piece.{Piece}
 use Rattle.m2v_decode.specs.Decoding.{whole_of}
 use Rattle.m2v_mend.specs.Strand.{wholes_of, ends_of, picture_place, AreInTurn, IsFaultOf}
 use Rattle.m2v_mend.proofs.Walking.{units_counted}
+use Rattle.m2v_mend.proofs.Parting.{ends_in_turn}
 
 -- ---- before a picture among units
 
@@ -140,13 +141,6 @@ rule_placed sp bytes ps es fs b e at anchors can are h none all goes units close
     behind_by sp text (last_open (cut 0 text).1) (Ok (es ++ fs, e)) refl closed read ∙ ap (λ (i : ℕ). (MissingReference, i)) there
 
 -- ---- a fault of a piece
-
-ends_in_turn : (ps : List Piece) (at : ℕ) → AreInTurn at ps → ends_of ps ≡ ends_from at (wholes_of ps)
-unfolding ends_from
-ends_in_turn [] at turn = refl
-ends_in_turn (p ∷ ps) at turn =
-    let n = length (whole_of p) in
-    ap (λ (i : ℕ). (i + n) ∷ ends_of ps) turn.0 ∙ ap (λ (l : List ℕ). (at + n) ∷ l) (ends_in_turn ps (at + n) turn.1)
 
 pub pieces_placed : (bytes : List ℕ) (ps : List Piece) (es : Events) (b : Between) (kind : FaultKind) (place : ℕ) → HasRead (units_of bytes) es b → CanGrow bytes → CanGoBehind bytes (wholes_of ps) → last_open (units_of (bytes ++ joined (wholes_of ps))) ≡ false
     → read_at b 0 (ends_of ps) (wholes_of ps) ≡ Err (kind, place) → IsFaultOf (bytes ++ joined (wholes_of ps)) ps (λ span. (kind, max place (8 * end_of_span span - 8 * length (bytes ++ joined (wholes_of ps)))))

@@ -3,6 +3,7 @@ use Rattle.std.proofs.Common.{◌≡◌, ℕ, suc, ◌+◌, ◌-◌, ◌<◌, �
 use Rattle.std.specs.Prelude.{nat_le, ◌&&◌, vec_len, All}
 use Rattle.std.proofs.lemmas.List.{length-append}
 use Rattle.std.proofs.lemmas.List.Elements.{All-get_or}
+use Rattle.std.proofs.Math.Bool.{and-false, and-true}
 use Rattle.m2v_model.specs.Units.{joined}
 use Rattle.m2v_law_seam.specs.Spans.{units_of, units_in}
 use Rattle.m2v_law_seam.specs.Strands.{ends_open, last_open}
@@ -27,24 +28,16 @@ no_zeros p n e none =
     let is : p.length - n ≡ 0 = omega (arith, none) in
     ap (λ (m : ℕ). text_of p.bytes.items (p.length - m)) (sym e) ∙ ap (text_of p.bytes.items) is ∙ append-nil p.bytes.items
 
-and_off : (b : Bool) → (b && false) ≡ false
-and_off true = refl
-and_off false = refl
-
-and_on : (b : Bool) → (b && true) ≡ b
-and_on true = refl
-and_on false = refl
-
 pub not_open : (p : Piece) (n : ℕ) → n ≡ vec_len p.bytes → p.length - n ≤ 0 → ends_open p.bytes.items ≡ false → false ≡ last_open (units_of (whole_of p))
 not_open p n e none closed =
     let ends : ends_open (whole_of p) ≡ false = ap ends_open (no_zeros p n e none) ∙ closed in
-    sym (last_is (whole_of p) ∙ ap (λ (b : Bool). nat_le 56 (last_bits 0 (units_of (whole_of p))) && b) ends ∙ and_off _)
+    sym (last_is (whole_of p) ∙ ap (λ (b : Bool). nat_le 56 (last_bits 0 (units_of (whole_of p))) && b) ends ∙ and-false _)
 
 pub open_so : (p : Piece) (n bits : ℕ) → n ≡ vec_len p.bytes → p.length - n ≤ 0 → ends_open p.bytes.items ≡ true → bits ≡ last_bits 0 (units_of (text_of p.bytes.items (p.length - n))) → nat_le 56 bits ≡ last_open (units_of (whole_of p))
 open_so p n bits e none opens is =
     let ends : ends_open (whole_of p) ≡ true = ap ends_open (no_zeros p n e none) ∙ opens in
     let same : bits ≡ last_bits 0 (units_of (whole_of p)) = is ∙ ap (λ (m : ℕ). last_bits 0 (units_of (text_of p.bytes.items (p.length - m)))) e in
-    ap (nat_le 56) same ∙ sym (last_is (whole_of p) ∙ ap (λ (b : Bool). nat_le 56 (last_bits 0 (units_of (whole_of p))) && b) ends ∙ and_on _)
+    ap (nat_le 56) same ∙ sym (last_is (whole_of p) ∙ ap (λ (b : Bool). nat_le 56 (last_bits 0 (units_of (whole_of p))) && b) ends ∙ and-true _)
 
 -- ---- the last piece
 

@@ -1,21 +1,21 @@
 -- Copies of pieces that can be put behind a strand: their units, where they stand, and that they can be put there.
 use Rattle.std.proofs.Common.{◌≡◌, ℕ, ◌+◌, ◌≤◌, Bool, true, false, List, [], ◌∷◌, ◌++◌, length, inl, inr, refl, sym, ap, subst, ◌∙◌, arith}
-use Rattle.std.specs.Prelude.{All, nat_eq}
-use Rattle.std.proofs.lemmas.Bool.{cases_Bool, eqb-true}
+use Rattle.std.specs.Prelude.{All}
+use Rattle.std.proofs.lemmas.Bool.{cases_Bool}
 use Rattle.std.proofs.lemmas.List.{length-append, map-append}
 use Rattle.std.proofs.lemmas.List.Elements.{All-head, All-tail}
 use Rattle.m2v_model.specs.Units.{Units, joined, AreUnits}
-use Rattle.m2v_model.specs.Streams.{value_of}
-use Rattle.m2v_model.specs.Pieces.{begins_piece}
 use Rattle.m2v_model.proofs.ShiftLaws.{NoEnds}
 use Rattle.m2v_law_group.specs.Groups.{is_sequence, has_sequence, from_sequence}
 use Rattle.m2v_law_seam.specs.Spans.{units_of, units_in, picture_count, Span, end_of_span}
 use Rattle.m2v_law_seam.specs.Seams.{lowered_unit, lowered, text_behind}
 use Rattle.m2v_law_seam.specs.Strands.{has_end}
 use Rattle.m2v_law_seam.specs.Reading.{BeginsOnePiece, BeginsSequence, IsPieceOfUnits, ArePieces, CanGoBehind}
-use Rattle.m2v_law_seam.proofs.Edited.{lowered_keeps, mapped_units, mapped_go, mapped_count}
+use Rattle.m2v_law_seam.proofs.Edited.{lowered_keeps, mapped_go, mapped_count}
 use Rattle.m2v_law_seam.proofs.Strand.{none_ends}
 use Rattle.m2v_law_seam.proofs.Placing.{whole_bytes}
+use Rattle.m2v_law_seam.proofs.Fronts.{none_end}
+use Rattle.m2v_law_seam.proofs.Pictures.{lowered_are}
 use Rattle.m2v_decode.specs.m2v_dec_piece.declared.answer.Piece.{Piece}
 use Rattle.m2v_decode.specs.m2v_dec_piece.Sound.{IsSoundPiece}
 use Rattle.m2v_decode.specs.Decoding.{whole_of}
@@ -25,7 +25,8 @@ use Rattle.m2v_mend.specs.Members.{AreLater, AreSpanPieces}
 use Rattle.m2v_mend.specs.Putting.{CanBePut}
 use Rattle.m2v_mend.specs.Copying.{units_behind, HasUnits, HasHeader, AreCopies}
 use Rattle.m2v_mend.proofs.EditLaws.{are_units}
-use Rattle.m2v_mend.proofs.FrontLaws.{from_units}
+use Rattle.m2v_mend.proofs.FrontLaws.{from_units, from_front}
+use Rattle.m2v_mend.proofs.Standalone.{from_begins, sequence_one, sequence_front, begins_mapped, sequence_mapped}
 
 -- ---- units from the first sequence header on
 
@@ -38,27 +39,6 @@ from_count : (us : Units) → picture_count (from_sequence us) ≤ picture_count
 unfolding from_sequence picture_count
 from_count [] = omega arith
 from_count (u ∷ us) = elim (cases_Bool (is_sequence u)) [ inl on ↦ rw on (omega arith) | inr off ↦ let i = from_count us in rw off (omega (arith, i)) ]
-
-from_begins : (us : Units) → has_sequence us ≡ true → BeginsSequence (from_sequence us)
-unfolding has_sequence from_sequence
-from_begins [] h = absurd cc
-from_begins (u ∷ us) h = elim (cases_Bool (is_sequence u)) [ inl on ↦ rw on on | inr off ↦ rw off (from_begins us (rw off at h)) ]
-
-from_front : (us vs : Units) → has_sequence us ≡ true → from_sequence (us ++ vs) ≡ from_sequence us ++ vs
-unfolding has_sequence from_sequence
-from_front [] vs h = absurd cc
-from_front (u ∷ us) vs h = elim (cases_Bool (is_sequence u)) [ inl on ↦ rw on refl | inr off ↦ rw off (from_front us vs (rw off at h)) ]
-
-sequence_begins : (us : Units) → BeginsSequence us → BeginsOnePiece us
-unfolding begins_piece
-sequence_begins [] h = absurd h
-sequence_begins (u ∷ us) h = rw (eqb-true (value_of u) 0xB3 h) refl
-
--- no end code is among them
-none_end : (us : Units) → NoEnds us → has_end us ≡ false
-unfolding has_end
-none_end [] n = refl
-none_end (u ∷ us) n = rw (n.0) (none_end us n.1)
 
 -- ---- the units of a copy
 
@@ -74,19 +54,8 @@ behind_count : (begun : Bool) (us : Units) → picture_count (units_behind begun
 behind_count true us = omega arith
 behind_count false us = from_count us
 
-low_are : (low : ℕ) (us : Units) → AreUnits us → AreUnits (lowered low us)
-low_are low us are = mapped_units (lowered_unit low) (lowered_keeps low) us are
-
 low_none : (low : ℕ) (us : Units) → AreUnits us → NoEnds us → has_end (lowered low us) ≡ false
 low_none low us are n = none_end (lowered low us) (mapped_go (lowered_unit low) (lowered_keeps low) us are n)
-
-low_begins : (low : ℕ) (us : Units) → AreUnits us → BeginsOnePiece us → BeginsOnePiece (lowered low us)
-low_begins low [] are h = absurd h
-low_begins low (u ∷ us) are h = ap begins_piece ((lowered_keeps low).value u are.0) ∙ h
-
-low_sequence : (low : ℕ) (us : Units) → AreUnits us → BeginsSequence us → BeginsSequence (lowered low us)
-low_sequence low [] are h = absurd h
-low_sequence low (u ∷ us) are h = subst (λ (n : ℕ). nat_eq n 0xB3 ≡ true) (sym ((lowered_keeps low).value u are.0)) h
 
 -- ---- a copy is a piece
 
@@ -102,7 +71,7 @@ copied_piece begun low p q x begins one =
     let fewer = behind_count begun (units_of (whole_of p)) in
     record {
       whole = ap joined x.units ∙ sym x.bytes;
-      begins = subst BeginsOnePiece (sym x.units) (low_begins low us are begins);
+      begins = subst BeginsOnePiece (sym x.units) (begins_mapped (lowered_unit low) (lowered_keeps low) us are begins);
       one = omega (arith, count, fewer, one);
     }
 
@@ -214,15 +183,11 @@ first_header [] p ps can e = can
 first_header (b ∷ bytes) p ps can e = absurd cc
 
 first_begins : (bytes : List ℕ) (p : List ℕ) (ps : List (List ℕ)) → CanBePut bytes (p ∷ ps) → BeginsOnePiece (units_behind (has_byte bytes) (units_of p))
-first_begins [] p ps can = sequence_begins (from_sequence (units_of p)) (from_begins (units_of p) can)
+first_begins [] p ps can = sequence_one (from_sequence (units_of p)) (from_begins (units_of p) can)
 first_begins (b ∷ bytes) p ps can = can
 
-front_sequence : (us vs : Units) → BeginsSequence us → BeginsSequence (us ++ vs)
-front_sequence [] vs h = absurd h
-front_sequence (u ∷ us) vs h = h
-
 first_sequence : (bytes : List ℕ) (p : List ℕ) (vs : Units) → has_byte bytes ≡ false → has_sequence (units_of p) ≡ true → BeginsSequence (units_behind (has_byte bytes) (units_of p ++ vs))
-first_sequence [] p vs e h = subst BeginsSequence (sym (from_front (units_of p) vs h)) (front_sequence (from_sequence (units_of p)) vs (from_begins (units_of p) h))
+first_sequence [] p vs e h = subst BeginsSequence (sym (from_front (units_of p) vs h)) (sequence_front (from_sequence (units_of p)) vs (from_begins (units_of p) h))
 first_sequence (b ∷ bytes) p vs e h = absurd cc
 
 no_byte : (bytes : List ℕ) → bytes ≡ [] → has_byte bytes ≡ false
@@ -250,11 +215,11 @@ copied_behind bytes low s begun (p ∷ ps) (q ∷ qs) eb is stretch can c turn s
       go = record {
         pieces = pieces;
         some = omega arith;
-        are = subst AreUnits (sym units) (low_are low (units_behind own us) mine);
+        are = subst AreUnits (sym units) (lowered_are low (units_behind own us) mine);
         no_end = ap has_end units ∙ low_none low (units_behind own us) mine none;
         first = λ e.
             let off = no_byte bytes e in
-            subst BeginsSequence (sym units) (low_sequence low (units_behind own us) mine (first_sequence bytes (whole_of p) (units_in (wholes_of ps)) off (header off)));
+            subst BeginsSequence (sym units) (sequence_mapped (lowered_unit low) (lowered_keeps low) (units_behind own us) mine (first_sequence bytes (whole_of p) (units_in (wholes_of ps)) off (header off)));
       };
       text = whole_bytes (wholes_of (q ∷ qs)) pieces ∙ ap joined units ∙ sym (text_is bytes low all) ∙ ap (text_behind bytes low) is;
       at = t.at;

@@ -1,11 +1,11 @@
 -- Copies of the pieces of a span, that are edited.
-use Rattle.std.proofs.Common.{◌≡◌, ◌⊎◌, inl, inr, ℕ, suc, ◌+◌, ◌<◌, ◌≤◌, Bool, true, false, List, [], ◌∷◌, ◌++◌, length, map, take, get_or, replicate, min, Some, None, refl, sym, ap, subst, ◌∙◌, append_assoc, arith}
-use Rattle.std.specs.Prelude.{nat_eq, nat_le, not, ◌&&◌, All, if◌then◌else◌, is_none}
-use Rattle.std.proofs.lemmas.Bool.{cases_Bool, le-leb, eqb-true}
-use Rattle.std.proofs.lemmas.List.{length-append, length-replicate, take_more, map-append}
+use Rattle.std.proofs.Common.{◌≡◌, ◌⊎◌, inl, inr, ℕ, suc, ◌+◌, ◌<◌, ◌≤◌, true, false, List, [], ◌∷◌, ◌++◌, length, map, take, get_or, replicate, min, None, refl, sym, ap, subst, ◌∙◌, append_assoc, arith}
+use Rattle.std.specs.Prelude.{nat_eq, All, is_none}
+use Rattle.std.proofs.lemmas.Bool.{cases_Bool, eqb-true}
+use Rattle.std.proofs.lemmas.List.{length-append, length-replicate, map-append}
 use Rattle.std.proofs.lemmas.List.Elements.{All-push}
 use Rattle.m2v_model.specs.Units.{Units, joined}
-use Rattle.m2v_model.specs.Pieces.{limit, too_long, too_large, most_input, most_bytes, zeros_first, zeros_last, trimmed}
+use Rattle.m2v_model.specs.Pieces.{limit, trimmed}
 use Rattle.m2v_dec_piece.proofs.TrimLaws.{trimmed_is, zeros_last_end}
 use Rattle.m2v_dec_unit.specs.Texts.{text_of}
 use Rattle.m2v_decode.specs.m2v_dec_piece.declared.answer.Piece.{Piece}
@@ -22,7 +22,8 @@ use Rattle.m2v_mend.specs.Strand.{wholes_of, ends_of}
 use Rattle.m2v_mend.specs.Opening.{bodies, IsCopy, IsLower, AreAdded, IsOwn, IsOwnFirst, FrontTold}
 use Rattle.m2v_mend.proofs.EditLaws.{are_units}
 use Rattle.m2v_mend.proofs.FrontLaws.{both_edits}
-use Rattle.m2v_mend.proofs.Parting.{bodies_append, ends_append, wholes_append, ends_more}
+use Rattle.m2v_mend.proofs.Parting.{bodies_append, ends_append, wholes_append, ends_more, next_taken}
+use Rattle.m2v_mend.proofs.LimitLaws.{no_zeros, large_at}
 
 -- ---- a copy
 
@@ -35,7 +36,7 @@ copy_whole p q h =
 
 pub added_more : (low : ℕ) (ms : List Member) (i : ℕ) (m : Member) (old mid new : List Piece) (q : Piece) → i < length ms → m ≡ get_or ms i m → AreAdded low (take i ms) old mid → IsLower low m.piece q → new ≡ mid ++ q ∷ [] → AreAdded low (take (i + 1) ms) old new
 added_more low ms i m old mid new q lt is h l e =
-    let next : take (i + 1) ms ≡ take i ms ++ m ∷ [] = take_more ms i m lt ∙ ap (λ (x : Member). take i ms ++ x ∷ []) (sym is) in
+    let next = next_taken ms i m lt is in
     let f : List ℕ → List ℕ = λ p. joined (lowered low (units_of p)) in
     let front = later_opened low (bodies (take i ms)) in
     let bodies_next : later_opened low (bodies (take (i + 1) ms)) ≡ front ++ f (whole_of m.piece) ∷ [] =
@@ -68,23 +69,6 @@ own_edited low p q r x s o a b t =
 
 -- ---- behind a head
 
--- a byte that isn't zero and stands too far passes a limit
-large_at : (place k : ℕ) (xs : List ℕ) (b : ℕ) (ys : List ℕ) → nat_eq b 0 ≡ false → most_bytes ≤ k + length xs → is_none (limit place k (xs ++ b ∷ ys)) ≡ false
-unfolding limit
-large_at place k [] b ys some le = by_long (nat_le most_input (place + k)) (not (nat_eq b 0)) (nat_le most_bytes k) (ap not some) (le-leb most_bytes k (omega (arith, le)))
-  where
-    by_long : (long other far : Bool) → other ≡ true → far ≡ true → is_none (if long then Some too_long else if other && far then Some too_large else limit place (k + 1) ys) ≡ false
-    by_long true other far a b = refl
-    by_long false true true a b = refl
-    by_long false false far a b = absurd cc
-    by_long false true false a b = absurd cc
-large_at place k (x ∷ xs) b ys some le = by_tests (nat_le most_input (place + k)) (not (nat_eq x 0) && nat_le most_bytes k) (large_at place (k + 1) xs b ys some (omega (arith, le)))
-  where
-    by_tests : (long large : Bool) → is_none (limit place (k + 1) (xs ++ b ∷ ys)) ≡ false → is_none (if long then Some too_long else if large then Some too_large else limit place (k + 1) (xs ++ b ∷ ys)) ≡ false
-    by_tests true large h = refl
-    by_tests false true h = refl
-    by_tests false false h = h
-
 -- bytes are zero, or zero bytes stand behind the last one that isn't
 record Ends (w : List ℕ) : Type 0 where
   front : List ℕ
@@ -106,10 +90,6 @@ parts_more x w (inl z) = elim (cases_Bool (nat_eq x 0)) [
 parts : (w : List ℕ) → AllZero w ⊎ Ends w
 parts [] = inl (0, refl)
 parts (x ∷ w) = parts_more x w (parts w)
-
-no_zeros : zeros_last [] ≡ 0
-unfolding zeros_first
-no_zeros = refl
 
 few_zeros : (w : List ℕ) → AllZero w → length (trimmed w) ≤ 64
 few_zeros w z =

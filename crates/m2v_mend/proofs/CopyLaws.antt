@@ -1,5 +1,5 @@
 -- How copies of pieces are made, one after another.
-use Rattle.std.proofs.Common.{◌≡◌, ℕ, suc, ◌+◌, ◌<◌, ◌≤◌, Bool, true, false, List, [], ◌∷◌, ◌++◌, length, drop, get_or, refl, sym, ap, subst, ◌∙◌, append_assoc, append-nil, arith, drop-cons}
+use Rattle.std.proofs.Common.{◌≡◌, ℕ, ◌+◌, ◌<◌, ◌≤◌, Bool, true, false, List, [], ◌∷◌, ◌++◌, length, drop, get_or, refl, sym, ap, subst, ◌∙◌, append_assoc, append-nil, arith}
 use Rattle.std.specs.Prelude.{All, not, ◌||◌}
 use Rattle.std.proofs.lemmas.Bool.{both_ways}
 use Rattle.std.proofs.lemmas.List.{drop_all}
@@ -16,6 +16,7 @@ use Rattle.m2v_mend.specs.declared.member.Member.{Member}
 use Rattle.m2v_mend.specs.Editing.{IsUnits, IsEdited, IsFromHeader}
 use Rattle.m2v_mend.specs.Members.{IsMember, pieces_of}
 use Rattle.m2v_mend.specs.Copying.{IsSame, units_behind, IsFront, IsCopy, AreCopies}
+use Rattle.m2v_mend.proofs.Parting.{next_left}
 
 -- ---- one piece
 
@@ -64,11 +65,6 @@ copied begun low m p q r s f e = λ h.
 
 -- ---- one piece more
 
-rest_more : (ms : List Member) (i : ℕ) (m : Member) → i < length ms → m ≡ get_or ms i m → drop i ms ≡ m ∷ drop (i + 1) ms
-rest_more ms i m lt is =
-    let next : suc i ≡ i + 1 = omega arith in
-    drop-cons ms i m lt ∙ ap (λ (n : ℕ). get_or ms i m ∷ drop n ms) next ∙ ap (λ (x : Member). x ∷ drop (i + 1) ms) (sym is)
-
 -- copies of the members from one on are copies of all, behind those that were made
 abbrev pub Continue : Bool → Bool → ℕ → List Member → List Piece → ℕ → Type 0
 Continue begun behind low ms done i = (qs : List Piece) → AreCopies behind low (pieces_of (drop i ms)) qs → AreCopies begun low (pieces_of ms) (done ++ qs)
@@ -80,7 +76,7 @@ pub copies_more : (begun behind : Bool) (low : ℕ) (ms : List Member) (done : L
     → Continue begun true low ms (done ++ q ∷ []) (i + 1)
 copies_more begun behind low ms done i m q lt is copy go = λ qs h.
     subst (AreCopies begun low (pieces_of ms)) (sym (append_assoc done (q ∷ []) qs))
-    (go (q ∷ qs) (subst (λ (l : List Member). AreCopies behind low (pieces_of l) (q ∷ qs)) (sym (rest_more ms i m lt is)) (copy, h)))
+    (go (q ∷ qs) (subst (λ (l : List Member). AreCopies behind low (pieces_of l) (q ∷ qs)) (sym (next_left ms i m lt is)) (copy, h)))
 
 pub copies_all : (begun behind : Bool) (low : ℕ) (ms : List Member) (done : List Piece) (i : ℕ) → length ms ≤ i → Continue begun behind low ms done i → AreCopies begun low (pieces_of ms) done
 copies_all begun behind low ms done i le go =

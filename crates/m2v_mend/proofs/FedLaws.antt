@@ -1,14 +1,13 @@
 -- What a cutter hands out, without what stands before the first unit and without an end code.
-use Rattle.std.proofs.Common.{◌≡◌, ℕ, ◌+◌, true, false, List, [], ◌∷◌, ◌++◌, Option, Some, None, inl, inr, refl, sym, ap, subst, ◌∙◌, arith}
+use Rattle.std.proofs.Common.{◌≡◌, ℕ, ◌+◌, true, List, ◌++◌, Option, Some, None, sym, ap, subst, ◌∙◌, arith}
 use Rattle.std.specs.Prelude.{IfSome}
-use Rattle.std.proofs.lemmas.Bool.{cases_Bool}
-use Rattle.m2v_model.specs.Units.{Units, cut, joined, AreUnits}
-use Rattle.m2v_model.specs.Streams.{value_of}
-use Rattle.m2v_model.specs.Pieces.{is_end}
+use Rattle.m2v_model.specs.Units.{cut, joined, AreUnits}
 use Rattle.m2v_model.proofs.CutLaws.{cut_cuts, cut_units, are_before}
 use Rattle.m2v_law_group.specs.Groups.{to_end}
+use Rattle.m2v_law_group.proofs.Lists.{ended_units}
 use Rattle.m2v_law_seam.specs.Spans.{units_of}
 use Rattle.m2v_law_seam.specs.Strands.{has_end}
+use Rattle.m2v_law_seam.proofs.Fronts.{none_end}
 use Rattle.m2v_decode.specs.m2v_dec_piece.declared.answer.Piece.{Piece}
 use Rattle.m2v_decode.specs.m2v_dec_piece.Cutting.{Cutting, start_of}
 use Rattle.m2v_decode.specs.m2v_dec_piece.Sound.{IsSoundPiece, GoesOnward}
@@ -17,6 +16,7 @@ use Rattle.m2v_decode.specs.Decoding.{whole_of}
 use Rattle.m2v_dec_piece.proofs.WholeLaws.{whole_is}
 use Rattle.m2v_mend.specs.Feeding.{from_end, IsBare, AreBare, IsOwn, KeepsZeros, KeepZeros, Fed, IsOnward}
 use Rattle.m2v_mend.proofs.FrontLaws.{trimmed_room}
+use Rattle.m2v_mend.proofs.Stretched.{units_parted}
 
 fed_none : (old new : Cutting) (left left' : Option (List ℕ)) → Handed old left new left' None → Fed old left new left' None
 fed_none old new left left' h = record { bytes = h.bytes; moved = h.moved; next = h.next; behind = h.behind; place = h.place; zeros = λ rest e. tt }
@@ -43,22 +43,12 @@ fed_as old new left left' (Some p) (Some q) h bare keeps = fed_some old new left
 
 -- ---- whatever the source tells
 
-units_parted : (us : Units) → us ≡ to_end us ++ from_end us
-unfolding to_end from_end
-units_parted [] = refl
-units_parted (u ∷ us) = elim (cases_Bool (is_end (value_of u))) [ inl on ↦ rw on refl | inr off ↦ rw off (ap (λ (l : Units). u ∷ l) (units_parted us)) ]
-
-none_ends : (us : Units) → has_end (to_end us) ≡ false
-unfolding to_end has_end
-none_ends [] = refl
-none_ends (u ∷ us) = elim (cases_Bool (is_end (value_of u))) [ inl on ↦ rw on refl | inr off ↦ rw (off, off) (none_ends us) ]
-
 bare_own : (q : Piece) (place : ℕ) (whole : List ℕ) → IsBare q place whole → IsOwn q
 bare_own q place whole is =
     let us = (cut 0 whole).1 in
     let are = are_before (to_end us) (from_end us) (subst AreUnits (units_parted us) (cut_cuts whole).are_units) in
     let same : units_of (whole_of q) ≡ to_end us = ap units_of is.whole ∙ cut_units (to_end us) are in
-    record { units = is.whole ∙ sym (ap joined same); no_end = ap has_end same ∙ none_ends us; sound = is.sound }
+    record { units = is.whole ∙ sym (ap joined same); no_end = ap has_end same ∙ none_end (to_end us) (ended_units us).3; sound = is.sound }
 
 pub own_as : (o q : Option Piece) → AreBare o q → IfSome q IsOwn
 own_as None None bare = tt

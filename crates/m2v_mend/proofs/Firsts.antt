@@ -1,9 +1,10 @@
 -- What the pieces of a span tell, piece by piece: the first picture, the first quant matrix extension, and how much there is.
-use Rattle.std.proofs.Common.{◌≡◌, ℕ, suc, ◌+◌, ◌-◌, ◌*◌, ◌/◌, ◌%◌, ◌<◌, ◌≤◌, Bool, true, false, List, [], ◌∷◌, ◌++◌, length, take, drop, get_or, Some, None, inl, inr, refl, sym, ap, subst, ◌∙◌, append_assoc, append-nil, arith, drop-cons}
+use Rattle.std.proofs.Common.{◌≡◌, ℕ, suc, ◌+◌, ◌-◌, ◌*◌, ◌/◌, ◌%◌, ◌<◌, ◌≤◌, Bool, true, false, List, [], ◌∷◌, ◌++◌, length, take, drop, get_or, Some, None, inl, inr, refl, sym, ap, subst, ◌∙◌, append_assoc, append-nil, arith}
 use Rattle.std.specs.Prelude.{nat_eq, nat_le, nat_lt, not, ◌&&◌, ◌||◌, cond, if◌then◌else◌, All}
 use Rattle.std.proofs.lemmas.Bool.{cases_Bool, cases_lt, leb-true, le-leb, lt-ltb, le-ltb, eq-eqb, ne_eqb}
-use Rattle.std.proofs.lemmas.List.{length-append, length-drop, take_more, take-append-drop, get_or_past, get_or-append-add}
+use Rattle.std.proofs.lemmas.List.{length-append, length-drop, take-append-drop, get_or_past, get_or-append-add}
 use Rattle.std.proofs.Math.ListN.{get_or-append}
+use Rattle.std.proofs.Math.Bool.{and-false}
 use Rattle.m2v_bits.specs.Bits.{number}
 use Rattle.m2v_bits.proofs.Cursor.{length-bits}
 use Rattle.m2v_model.specs.declared.fault.FaultKind.{FaultKind}
@@ -20,7 +21,9 @@ use Rattle.m2v_law_group.proofs.Lists.{and_parts, or_parts}
 use Rattle.m2v_law_seam.specs.Spans.{units_of, units_in, picture_count, is_kind, first_is, begins_kind, is_matrices, has_matrices, Span}
 use Rattle.m2v_law_seam.specs.Seams.{frame_pieces, leading, reference_of, reference_at, first_reference}
 use Rattle.m2v_law_seam.specs.Faults.{before_picture, before_matrices, has_head, begins_entry, picture_place}
-use Rattle.m2v_law_seam.proofs.Told.{units_append, count_append}
+use Rattle.m2v_law_seam.proofs.Told.{units_append, count_append, none_units, units_first, units_one}
+use Rattle.m2v_law_seam.proofs.Groups.{picture_is, no_picture}
+use Rattle.m2v_law_seam.proofs.Fields.{plain_first, shown_first}
 use Rattle.m2v_mend.specs.declared.begin.Leading.{Leading}
 use Rattle.m2v_mend.specs.declared.member.Member.{Member}
 use Rattle.m2v_mend.specs.declared.opening.Shape.{Shape}
@@ -32,37 +35,24 @@ use Rattle.m2v_mend.specs.Putting.{IsLeading}
 use Rattle.m2v_mend.specs.Telling.{IsInfo}
 use Rattle.m2v_mend.specs.Alone.{HasFirstPicture, HasFirstMatrices, reference_from, fault_as, is_able, UnableTold, LeadingTold}
 use Rattle.m2v_mend.proofs.EditLaws.{past_get, within_get}
-use Rattle.m2v_mend.proofs.Parting.{bodies_append}
+use Rattle.m2v_mend.proofs.Parting.{bodies_append, next_taken, next_parts}
 use Rattle.m2v_mend.proofs.Openings.{leading_bodies, leading_count, frame_bodies}
+use Rattle.m2v_mend.proofs.InfoLaws.{picture_here}
+use Rattle.m2v_mend.proofs.HeadLaws.{matrices_append}
+
+-- a piece among others
+member_among : (front : List Member) (m : Member) (later : List Member) → All IsMember (front ++ m ∷ later) → IsMember m
+member_among [] m later all = all 0 m (omega arith)
+member_among (x ∷ front) m later all = member_among front m later (λ k d lt. all (suc k) d (omega (arith, lt)))
 
 -- ---- one piece more
 
-next_member : (ms : List Member) (i : ℕ) (m : Member) → i < length ms → m ≡ get_or ms i m → take (i + 1) ms ≡ take i ms ++ m ∷ []
-next_member ms i m lt is = take_more ms i m lt ∙ ap (λ (x : Member). take i ms ++ x ∷ []) (sym is)
-
 next_bodies : (ms : List Member) (i : ℕ) (m : Member) → i < length ms → m ≡ get_or ms i m → bodies (take (i + 1) ms) ≡ bodies (take i ms) ++ whole_of m.piece ∷ []
-next_bodies ms i m lt is = ap bodies (next_member ms i m lt is) ∙ bodies_append (take i ms) (m ∷ [])
-
-units_one : (p : List ℕ) → units_in (p ∷ []) ≡ units_of p
-unfolding units_in
-units_one p = append-nil (units_of p)
-
-units_none : units_in [] ≡ []
-unfolding units_in
-units_none = refl
-
-units_first : (p : List ℕ) (ps : List (List ℕ)) → units_in (p ∷ ps) ≡ units_of p ++ units_in ps
-unfolding units_in
-units_first p ps = refl
+next_bodies ms i m lt is = ap bodies (next_taken ms i m lt is) ∙ bodies_append (take i ms) (m ∷ [])
 
 next_units : (ms : List Member) (i : ℕ) (m : Member) → i < length ms → m ≡ get_or ms i m → units_in (bodies (take (i + 1) ms)) ≡ units_in (bodies (take i ms)) ++ units_of (whole_of m.piece)
 next_units ms i m lt is =
     ap units_in (next_bodies ms i m lt is) ∙ units_append (bodies (take i ms)) (whole_of m.piece ∷ []) ∙ ap (λ (l : Units). units_in (bodies (take i ms)) ++ l) (units_one (whole_of m.piece))
-
-parted_at : (ms : List Member) (i : ℕ) (m : Member) → i < length ms → m ≡ get_or ms i m → ms ≡ take i ms ++ m ∷ drop (i + 1) ms
-parted_at ms i m lt is =
-    let next : suc i ≡ i + 1 = omega arith in
-    sym (take-append-drop i ms) ∙ ap (λ (l : List Member). take i ms ++ l) (drop-cons ms i m lt ∙ ap (λ (x : Member). x ∷ drop (suc i) ms) (sym is) ∙ ap (λ (n : ℕ). m ∷ drop n ms) next)
 
 -- ---- how many pictures
 
@@ -71,7 +61,7 @@ unfolding picture_count
 count_none = refl
 
 pub no_pictures : picture_count (units_in []) ≡ 0
-no_pictures = ap picture_count units_none ∙ count_none
+no_pictures = ap picture_count none_units ∙ count_none
 
 pub pictures_next : (ms : List Member) (i : ℕ) (m : Member) (n k : ℕ) → i < length ms → m ≡ get_or ms i m → IsMember m → n ≡ picture_count (units_in (bodies (take i ms))) → k ≡ n + m.info.pictures → k ≡ picture_count (units_in (bodies (take (i + 1) ms)))
 pictures_next ms i m n k lt is own before e =
@@ -86,25 +76,16 @@ pictures_past ms i m lt is own none before =
     omega (arith, before, sum, (own.info).pictures, none)
 
 pub picture_first : (ms : List Member) (i : ℕ) (m : Member) → i < length ms → m ≡ get_or ms i m → 0 < m.info.pictures → picture_count (units_in (bodies (take i ms))) ≡ 0 → HasFirstPicture ms m
-picture_first ms i m lt is some none = record { front = take i ms; later = drop (i + 1) ms; are = parted_at ms i m lt is; none = none; some = omega (arith, some) }
+picture_first ms i m lt is some none = record { front = take i ms; later = drop (i + 1) ms; are = next_parts ms i m lt is; none = none; some = omega (arith, some) }
 
 -- ---- quant matrix extensions
-
-or_or : (a b c : Bool) → (a || (b || c)) ≡ ((a || b) || c)
-or_or true b c = refl
-or_or false b c = refl
-
-matrices_append : (us vs : Units) → has_matrices (us ++ vs) ≡ (has_matrices us || has_matrices vs)
-unfolding has_matrices
-matrices_append [] vs = refl
-matrices_append (u ∷ us) vs = ap (λ (b : Bool). is_matrices u || b) (matrices_append us vs) ∙ or_or (is_matrices u) (has_matrices us) (has_matrices vs)
 
 matrices_none : has_matrices [] ≡ false
 unfolding has_matrices
 matrices_none = refl
 
 pub no_matrices : has_matrices (units_in []) ≡ false
-no_matrices = ap has_matrices units_none ∙ matrices_none
+no_matrices = ap has_matrices none_units ∙ matrices_none
 
 pub matrices_past : (ms : List Member) (i : ℕ) (m : Member) → i < length ms → m ≡ get_or ms i m → IsMember m → m.info.matrices ≡ false → has_matrices (units_in (bodies (take i ms))) ≡ false → has_matrices (units_in (bodies (take (i + 1) ms))) ≡ false
 matrices_past ms i m lt is own off before =
@@ -112,7 +93,7 @@ matrices_past ms i m lt is own off before =
     ap has_matrices (next_units ms i m lt is) ∙ matrices_append (units_in (bodies (take i ms))) us ∙ ap (λ (b : Bool). b || has_matrices us) before ∙ sym (own.info).matrices ∙ off
 
 pub matrices_first : (ms : List Member) (i : ℕ) (m : Member) → i < length ms → m ≡ get_or ms i m → m.info.matrices ≡ true → has_matrices (units_in (bodies (take i ms))) ≡ false → HasFirstMatrices ms m
-matrices_first ms i m lt is some none = record { front = take i ms; later = drop (i + 1) ms; are = parted_at ms i m lt is; none = none; some = some }
+matrices_first ms i m lt is some none = record { front = take i ms; later = drop (i + 1) ms; are = next_parts ms i m lt is; none = none; some = some }
 
 -- ---- how many bytes
 
@@ -133,7 +114,7 @@ turn_place at (x ∷ front) m later h =
 
 -- bytes of pieces are those of their units
 pub bytes_units : (front : List Member) (m : Member) (later : List Member) → All IsMember (front ++ m ∷ later) → joined (units_in (bodies front)) ≡ joined (bodies front)
-bytes_units [] m later all = ap joined units_none
+bytes_units [] m later all = ap joined none_units
 bytes_units (x ∷ front) m later all =
     let own = all 0 x (omega arith) in
     let w = whole_of x.piece in
@@ -156,14 +137,6 @@ off_first : (u : List ℕ) (us : Units) (b : Bool) → is_picture u ≡ b → pi
 off_first u us true e none = absurd (omega (arith, none, count_step u us true e))
 off_first u us false e none = (e, omega (arith, none, count_step u us false e))
 
-coded_off : (u : List ℕ) (us : Units) → is_picture u ≡ false → coded_pictures (u ∷ us) ≡ coded_pictures us
-unfolding coded_pictures
-coded_off u us e = rw e refl
-
-coded_on : (u : List ℕ) (us : Units) → is_picture u ≡ true → coded_pictures (u ∷ us) ≡ (u, next_unit us) ∷ coded_pictures us
-unfolding coded_pictures
-coded_on u us e = rw e refl
-
 coded_none : coded_pictures [] ≡ []
 unfolding coded_pictures
 coded_none = refl
@@ -172,7 +145,7 @@ pub coded_behind : (us vs : Units) → picture_count us ≡ 0 → coded_pictures
 coded_behind [] vs none = refl
 coded_behind (u ∷ us) vs none =
     let o = off_first u us (is_picture u) refl none in
-    coded_off u (us ++ vs) o.0 ∙ coded_behind us vs o.1
+    (plain_first u (us ++ vs) o.0).0 ∙ coded_behind us vs o.1
 
 pub coded_empty : (us : Units) → picture_count us ≡ 0 → coded_pictures us ≡ []
 coded_empty us none = ap coded_pictures (sym (append-nil us)) ∙ coded_behind us [] none ∙ coded_none
@@ -180,10 +153,6 @@ coded_empty us none = ap coded_pictures (sym (append-nil us)) ∙ coded_behind u
 before_off : (u : List ℕ) (us : Units) → is_picture u ≡ false → before_picture 0 (u ∷ us) ≡ u ∷ before_picture 0 us
 unfolding before_picture
 before_off u us e = rw e refl
-
-before_on : (u : List ℕ) (us : Units) → is_picture u ≡ true → before_picture 0 (u ∷ us) ≡ []
-unfolding before_picture
-before_on u us e = rw e refl
 
 before_behind : (us vs : Units) → picture_count us ≡ 0 → before_picture 0 (us ++ vs) ≡ us ++ before_picture 0 vs
 before_behind [] vs none = refl
@@ -203,9 +172,9 @@ picture_step : (u : List ℕ) (us : Units) (b : Bool) → is_picture u ≡ b →
 picture_step u us true e some ih = record {
   unit = u;
   rest = us;
-  are = ap (λ (l : Units). l ++ u ∷ us) (sym (before_on u us e));
+  are = ap (λ (l : Units). l ++ u ∷ us) (sym (picture_here u us e));
   is = e;
-  none = ap picture_count (before_on u us e) ∙ count_none;
+  none = ap picture_count (picture_here u us e) ∙ count_none;
 }
 picture_step u us false e some ih =
     let i = ih (omega (arith, some, count_step u us false e)) in
@@ -227,13 +196,13 @@ before_front us vs some =
     let x = picture_in us some in
     let b = before_picture 0 us in
     ap (λ (l : Units). before_picture 0 (l ++ vs)) x.are ∙ ap (before_picture 0) (append_assoc b (x.unit ∷ x.rest) vs) ∙ before_behind b ((x.unit ∷ x.rest) ++ vs) x.none
-    ∙ ap (λ (l : Units). b ++ l) (before_on x.unit (x.rest ++ vs) x.is) ∙ append-nil b
+    ∙ ap (λ (l : Units). b ++ l) (picture_here x.unit (x.rest ++ vs) x.is) ∙ append-nil b
 
 -- the first of them, with what follows
 coded_front : (us vs : Units) → (x : PictureIn us) → coded_pictures (us ++ vs) ≡ (x.unit, next_unit (x.rest ++ vs)) ∷ coded_pictures (x.rest ++ vs)
 coded_front us vs x =
     let b = before_picture 0 us in
-    ap (λ (l : Units). coded_pictures (l ++ vs)) x.are ∙ ap coded_pictures (append_assoc b (x.unit ∷ x.rest) vs) ∙ coded_behind b ((x.unit ∷ x.rest) ++ vs) x.none ∙ coded_on x.unit (x.rest ++ vs) x.is
+    ap (λ (l : Units). coded_pictures (l ++ vs)) x.are ∙ ap coded_pictures (append_assoc b (x.unit ∷ x.rest) vs) ∙ coded_behind b ((x.unit ∷ x.rest) ++ vs) x.none ∙ shown_first x.unit (x.rest ++ vs) x.is
 
 -- ---- the temporal reference of an I picture
 
@@ -277,16 +246,9 @@ coded_at ms m h = ap coded_pictures (units_at ms h.front h.later m h.are) ∙ co
 pub kind_at : (ms : List Member) (m : Member) → (h : HasFirstPicture ms m) → begins_kind 1 (bodies ms) ≡ begins_kind 1 (whole_of m.piece ∷ bodies h.later)
 kind_at ms m h = ap (first_is (λ p. is_kind 1 p.0)) (coded_at ms m h ∙ ap coded_pictures (sym (units_first (whole_of m.piece) (bodies h.later))))
 
-member_in : (ms : List Member) (m : Member) → HasFirstPicture ms m → All IsMember ms → IsMember m
-member_in ms m h all = own h.front (subst (All IsMember) h.are all)
-  where
-    own : (front : List Member) → All IsMember (front ++ m ∷ h.later) → IsMember m
-    own [] all = all 0 m (omega arith)
-    own (x ∷ front) all = own front (λ k d lt. all (suc k) d (omega (arith, lt)))
-
 pub reference_is : (ms : List Member) (m : Member) (r : ℕ) → All IsMember ms → HasFirstPicture ms m → r ≡ reference_from (m.piece).bytes.items m.info.picture_place → begins_kind 1 (bodies ms) ≡ true → r ≡ first_reference (bodies ms)
 reference_is ms m r all h e kind =
-    let own = member_in ms m h all in
+    let own = member_among h.front m h.later (subst (All IsMember) h.are all) in
     let us = units_of (whole_of m.piece) in
     let vs = units_in (bodies h.later) in
     let x = picture_in us (omega (arith, h.some, (own.info).pictures)) in
@@ -300,28 +262,8 @@ reference_none ms none = sym (ap reference_at (coded_empty (units_in (bodies ms)
 
 -- ---- a span with which no strand can begin, whatever its pieces are
 
-picture_off : (us : Units) → picture_count us ≡ 0 → has_picture us ≡ false
-unfolding has_picture
-picture_off [] none = refl
-picture_off (u ∷ us) none =
-    let o = off_first u us (is_picture u) refl none in
-    ap (λ (b : Bool). b || has_picture us) o.0 ∙ picture_off us o.1
-
-or_right : (a : Bool) → (a || true) ≡ true
-or_right true = refl
-or_right false = refl
-
-picture_on : (us vs : Units) (u : List ℕ) → is_picture u ≡ true → has_picture (us ++ u ∷ vs) ≡ true
-unfolding has_picture
-picture_on [] vs u e = ap (λ (b : Bool). b || has_picture vs) e
-picture_on (v ∷ us) vs u e = ap (λ (b : Bool). is_picture v || b) (picture_on us vs u e) ∙ or_right (is_picture v)
-
 picture_some : (us : Units) → 1 ≤ picture_count us → has_picture us ≡ true
-picture_some us some = let x = picture_in us some in ap has_picture x.are ∙ picture_on (before_picture 0 us) x.rest x.unit x.is
-
-and_off : (b : Bool) → (b && false) ≡ false
-and_off true = refl
-and_off false = refl
+picture_some us some = picture_is us ∙ lt-ltb 0 (picture_count us) some
 
 module _ (s : Span) (x : SpanParts) (is : IsSpan s x) (short : x.long ≡ false) (headed : has_head s ≡ true) where
   bodies_are : bodies x.members.items ≡ s.pieces
@@ -338,12 +280,12 @@ module _ (s : Span) (x : SpanParts) (is : IsSpan s x) (short : x.long ≡ false)
   unable_none f none e =
       let own : picture_count (units_in s.pieces) ≡ 0 = ap (λ (l : List (List ℕ)). picture_count (units_in l)) (sym bodies_are) ∙ none in
       let kind : begins_kind 1 s.pieces ≡ false = ap (begins_kind 1) (sym bodies_are) ∙ no_kind x.members.items none in
-      let place : picture_place s ≡ 8 * s.place = ap (λ (b : Bool). if b then 8 * (s.place + length (joined (before_picture 0 (units_in s.pieces)))) else 8 * s.place) (picture_off (units_in s.pieces) own) in
-      (able_by (begins_entry s.pieces) false refl kind ∙ and_off (begins_entry s.pieces), missing f (8 * x.place) e.0 e.1 (ap (λ (n : ℕ). 8 * n) is.place ∙ sym place))
+      let place : picture_place s ≡ 8 * s.place = ap (λ (b : Bool). if b then 8 * (s.place + length (joined (before_picture 0 (units_in s.pieces)))) else 8 * s.place) (no_picture (units_in s.pieces) own) in
+      (able_by (begins_entry s.pieces) false refl kind ∙ and-false (begins_entry s.pieces), missing f (8 * x.place) e.0 e.1 (ap (λ (n : ℕ). 8 * n) is.place ∙ sym place))
 
   kind_is : (m : Member) (b : Bool) → All IsMember x.members.items → (h : HasFirstPicture x.members.items m) → ((p : List ℕ) (ps : List (List ℕ)) → IsInfo (units_of p) m.info → 1 ≤ m.info.pictures → b ≡ begins_kind 1 (p ∷ ps)) → b ≡ begins_kind 1 s.pieces
   kind_is m b all h told =
-      told (whole_of m.piece) (bodies h.later) (member_in x.members.items m h all).info h.some ∙ sym (kind_at x.members.items m h) ∙ ap (begins_kind 1) bodies_are
+      told (whole_of m.piece) (bodies h.later) (member_among h.front m h.later (subst (All IsMember) h.are all)).info h.some ∙ sym (kind_at x.members.items m h) ∙ ap (begins_kind 1) bodies_are
 
   pub able_told : (m : Member) (b : Bool) → All IsMember x.members.items → HasFirstPicture x.members.items m → ((p : List ℕ) (ps : List (List ℕ)) → IsInfo (units_of p) m.info → 1 ≤ m.info.pictures → b ≡ begins_kind 1 (p ∷ ps)) → (x.entry && b) ≡ true → UnableTold s None
   able_told m b all h told both =
@@ -354,7 +296,7 @@ module _ (s : Span) (x : SpanParts) (is : IsSpan s x) (short : x.long ≡ false)
   place_is : (m : Member) → All IsMember x.members.items → HasFirstPicture x.members.items m → 8 * ((m.piece).place + m.info.picture_place) ≡ picture_place s
   place_is m all h =
       let ms = x.members.items in
-      let own = member_in ms m h all in
+      let own = member_among h.front m h.later (subst (All IsMember) h.are all) in
       let us = units_of (whole_of m.piece) in
       let vs = units_in (bodies h.later) in
       let front = units_in (bodies h.front) in
@@ -393,13 +335,6 @@ matrices_on (u ∷ us) vs e = elim (cases_Bool (is_matrices u)) [
   | inr off ↦ rw off (ap (λ (l : Units). u ∷ l) (matrices_on us vs (rw off at e)))
 ]
 
-member_with : (ms : List Member) (m : Member) → HasFirstMatrices ms m → All IsMember ms → IsMember m
-member_with ms m h all = own h.front (subst (All IsMember) h.are all)
-  where
-    own : (front : List Member) → All IsMember (front ++ m ∷ h.later) → IsMember m
-    own [] all = all 0 m (omega arith)
-    own (x ∷ front) all = own front (λ k d lt. all (suc k) d (omega (arith, lt)))
-
 module _ (s : Span) (x : SpanParts) (is : IsSpan s x) (short : x.long ≡ false) (h : Shape) (shape : IsShape x.members.items h) where
   abbrev lead : List Member
   lead = take (h.behind - h.frame) (drop h.frame x.members.items)
@@ -423,7 +358,7 @@ module _ (s : Span) (x : SpanParts) (is : IsSpan s x) (short : x.long ≡ false)
   pub matrices_told : (m : Member) (f : Fault) → All IsMember lead → HasFirstMatrices lead m → (f.kind ≡ Unsupported) × (f.place ≡ 8 * ((m.piece).place + m.info.matrices_place)) → LeadingTold s (Some f)
   matrices_told m f all i e =
       let ms = x.members.items in
-      let own = member_with lead m i all in
+      let own = member_among i.front m i.later (subst (All IsMember) i.are all) in
       let us = units_of (whole_of m.piece) in
       let vs = units_in (bodies i.later) in
       let front = units_in (bodies i.front) in

@@ -1,24 +1,25 @@
 -- What is made of pieces, with one more piece, and behind the last one of a stretch.
-use Rattle.std.proofs.Common.{◌≡◌, ◌⊎◌, ℕ, ◌+◌, ◌≤◌, Bool, true, false, List, [], ◌∷◌, ◌++◌, length, Option, Some, None, inl, inr, refl, sym, ap, subst, ◌∙◌, append_assoc, append-nil, arith}
-use Rattle.std.specs.Prelude.{nat_eq, nat_le, nat_lt, not, ◌&&◌, ◌||◌, if◌then◌else◌}
-use Rattle.std.proofs.lemmas.Bool.{cases_Bool, eqb-true, lt-ltb}
+use Rattle.std.proofs.Common.{◌≡◌, ℕ, ◌+◌, ◌≤◌, Bool, true, false, List, [], ◌∷◌, ◌++◌, length, Option, Some, None, inl, inr, refl, sym, ap, subst, ◌∙◌, append_assoc, append-nil, arith}
+use Rattle.std.specs.Prelude.{nat_le, nat_lt, not, ◌&&◌, ◌||◌, if◌then◌else◌}
+use Rattle.std.proofs.lemmas.Bool.{cases_Bool}
 use Rattle.std.proofs.lemmas.List.{length-append}
 use Rattle.m2v_model.specs.Units.{Units, joined, AreUnits}
-use Rattle.m2v_model.specs.Streams.{value_of}
-use Rattle.m2v_model.specs.Pieces.{is_end}
 use Rattle.m2v_model.proofs.CutLaws.{joined-append, cut_units, are_before, are_behind}
 use Rattle.m2v_decode.specs.m2v_dec_piece.declared.answer.Piece.{Piece}
 use Rattle.m2v_decode.specs.Decoding.{whole_of}
-use Rattle.m2v_law_group.specs.Groups.{is_picture, is_sequence, has_sequence, has_picture, from_last_sequence}
-use Rattle.m2v_law_group.proofs.Lists.{or_parts, and_parts}
-use Rattle.m2v_law_seam.specs.Spans.{units_of, units_in, picture_count, is_entry, waits_behind, is_extension, has_matrices, extensions_first, behind_extensions, most_head, head_of, span_of, placed, Span}
+use Rattle.m2v_law_group.specs.Groups.{has_sequence, from_last_sequence}
+use Rattle.m2v_law_group.proofs.Lists.{or_parts, last_found}
+use Rattle.m2v_law_seam.specs.Spans.{units_of, units_in, picture_count, is_entry, waits_behind, has_matrices, extensions_first, behind_extensions, most_head, head_of, span_of, placed, Span}
 use Rattle.m2v_law_seam.specs.Seams.{bytes_or_none}
 use Rattle.m2v_law_seam.specs.Strands.{has_end}
 use Rattle.m2v_law_seam.specs.Mending as mending
 use Rattle.m2v_law_seam.specs.Mending.{Mending, nothing_yet, is_group_span, ended_by}
 use Rattle.m2v_law_seam.specs.Reading.{BeginsSequence, IsPieceOfUnits}
 use Rattle.m2v_law_seam.proofs.Edited.{without_middle}
-use Rattle.m2v_law_seam.proofs.Told.{units_append}
+use Rattle.m2v_law_seam.proofs.Told.{units_append, units_one, none_units}
+use Rattle.m2v_law_seam.proofs.ByUnits.{end_append}
+use Rattle.m2v_law_seam.proofs.Tame.{HeadOf, head_there, none_last, extensions_parts}
+use Rattle.m2v_law_seam.proofs.Groups.{picture_is}
 use Rattle.m2v_mend.specs.declared.folding.Folding.{Folding}
 use Rattle.m2v_mend.specs.declared.member.Member.{Member}
 use Rattle.m2v_mend.specs.declared.parts.SpanParts.{SpanParts}
@@ -27,86 +28,26 @@ use Rattle.m2v_mend.specs.Gathering.{Tally, with_one, with_all, stretch_ended, G
 use Rattle.m2v_mend.specs.Members.{IsOneOfUnits, AreLater, AreSpanPieces, HeadStands, IsOfStretch, IsSpan}
 use Rattle.m2v_mend.specs.Making.{IsMade, CanBeNext, span_of_pieces, IsAtHand, IsFolded, IsNextPiece}
 use Rattle.m2v_mend.specs.Folded.{IsTold, HasSpan, IsBegun, IsGrown, Waits}
+use Rattle.m2v_mend.proofs.Gathering.{piece_begins, piece_joins}
 
 -- ---- the head before units
 
--- the units from the last sequence header on
-abbrev LastOf : Units → Type 0
-LastOf us = (from_last_sequence us ≡ []) ⊎ ((x : Units) × (h : List ℕ) × (w : Units) × (from_last_sequence us ≡ h ∷ w) × (us ≡ x ++ h ∷ w) × (is_sequence h ≡ true))
-
-last_step : (u : List ℕ) (us : Units) (b : Bool) → (is_sequence u && not (has_sequence us)) ≡ b → LastOf us → LastOf (u ∷ us)
-unfolding from_last_sequence
-last_step u us true e i = inr ([], u, us, rw e refl, refl, (and_parts (is_sequence u) _ e).0)
-last_step u us false e (inl none) = inl (rw e none)
-last_step u us false e (inr x) = inr (u ∷ x.0, x.1, x.2, rw e (x.3), ap (λ (l : Units). u ∷ l) x.4, x.5)
-
-last_of : (us : Units) → LastOf us
-unfolding from_last_sequence
-last_of [] = inl refl
-last_of (u ∷ us) = last_step u us (is_sequence u && not (has_sequence us)) refl (last_of us)
-
-extensions_parts : (us : Units) → us ≡ extensions_first us ++ behind_extensions us
-unfolding extensions_first behind_extensions
-extensions_parts [] = refl
-extensions_parts (u ∷ us) = elim (cases_Bool (is_extension u)) [ inl on ↦ rw on (ap (λ (l : Units). u ∷ l) (extensions_parts us)) | inr off ↦ rw off refl ]
-
-count_one : (u : List ℕ) (us : Units) → is_picture u ≡ false → picture_count (u ∷ us) ≡ picture_count us
-unfolding picture_count
-count_one u us off = rw off (omega arith)
-
-extensions_count : (us : Units) → picture_count (extensions_first us) ≡ 0
-unfolding extensions_first picture_count
-extensions_count [] = refl
-extensions_count (u ∷ us) = elim (cases_Bool (is_extension u)) [
-  | inl on ↦ rw on (count_one u (extensions_first us) (ap (λ (n : ℕ). nat_eq n 0x00) (eqb-true (value_of u) 0xB5 on)) ∙ extensions_count us)
-  | inr off ↦ rw off refl
-]
-
-no_end_one : (u : List ℕ) (us : Units) → is_end (value_of u) ≡ false → has_end us ≡ false → has_end (u ∷ us) ≡ false
-unfolding has_end
-no_end_one u us off none = rw off none
-
-not_end : (u : List ℕ) (v : ℕ) → value_of u ≡ v → is_end v ≡ false → is_end (value_of u) ≡ false
-not_end u v e off = ap is_end e ∙ off
-
-extension_stays : is_end 0xB5 ≡ false
-unfolding is_end
-extension_stays = refl
-
-sequence_stays : is_end 0xB3 ≡ false
-unfolding is_end
-sequence_stays = refl
-
-extensions_end : (us : Units) → has_end (extensions_first us) ≡ false
-unfolding extensions_first has_end
-extensions_end [] = refl
-extensions_end (u ∷ us) = elim (cases_Bool (is_extension u)) [
-  | inl on ↦ rw on (no_end_one u (extensions_first us) (not_end u 0xB5 (eqb-true (value_of u) 0xB5 on) extension_stays) (extensions_end us))
-  | inr off ↦ rw off refl
-]
-
-head_by : (h : List ℕ) (w us : Units) (b : Bool) → is_sequence h ≡ true → AreUnits ((h ∷ w) ++ us) → HeadStands us (if b then None else Some (joined (h ∷ extensions_first w)))
-head_by h w us true is are = tt
-head_by h w us false is are =
-    let hs = h ∷ extensions_first w in
-    let parts : AreUnits (hs ++ (behind_extensions w ++ us)) = subst AreUnits (ap (λ (l : Units). (h ∷ l) ++ us) (extensions_parts w) ∙ append_assoc hs (behind_extensions w) us) are in
-    let front : AreUnits (hs ++ us) = without_middle hs (behind_extensions w) us parts in
-    let same = cut_units hs (are_before hs us front) in
-    record {
-      whole = ap joined same;
-      begins = subst BeginsSequence (sym same) is;
-      are = subst (λ (l : Units). AreUnits (l ++ us)) (sym same) front;
-      no_end = ap has_end same ∙ no_end_one h (extensions_first w) (not_end h 0xB3 (eqb-true (value_of h) 0xB3 is) sequence_stays) (extensions_end w);
-      none = ap picture_count same ∙ count_one h (extensions_first w) (ap (λ (n : ℕ). nat_eq n 0x00) (eqb-true (value_of h) 0xB3 is)) ∙ extensions_count w;
-    }
-
+-- the head that is told of units stands before those behind them
 head_stands : (before us : Units) → AreUnits (before ++ us) → HeadStands us (head_of (from_last_sequence before))
-head_stands before us are = elim (last_of before) [
-  | inl none ↦ subst (λ (l : Units). HeadStands us (head_of l)) (sym none) tt
-  | inr x ↦
-      let rest : AreUnits ((x.1 ∷ x.2) ++ us) = are_behind x.0 ((x.1 ∷ x.2) ++ us) (subst AreUnits (ap (λ (l : Units). l ++ us) x.4 ∙ append_assoc x.0 (x.1 ∷ x.2) us) are) in
-      subst (λ (l : Units). HeadStands us (head_of l)) (sym x.3) (head_by x.1 x.2 us _ x.5 rest)
-]
+head_stands before us are = stands_by (head_of (from_last_sequence before)) (head_there before us are)
+  where
+    stands_by : (o : Option (List ℕ)) → HeadOf o us → HeadStands us o
+    stands_by None h = tt
+    stands_by (Some bytes) h =
+        let front : AreUnits (h.hs ++ us) = without_middle h.hs h.ys us h.are in
+        let same : units_of bytes ≡ h.hs = ap units_of h.is ∙ cut_units h.hs (are_before h.hs us front) in
+        record {
+          whole = ap joined same ∙ sym h.is;
+          begins = subst BeginsSequence (sym same) h.begins;
+          are = subst (λ (l : Units). AreUnits (l ++ us)) (sym same) front;
+          no_end = ap has_end same ∙ h.no_end;
+          none = ap picture_count same ∙ h.none;
+        }
 
 within_by : (h : List ℕ) (w : Units) (b : Bool) → length (bytes_or_none (if b then None else Some (joined (h ∷ extensions_first w)))) ≤ length (joined (h ∷ w))
 within_by h w true = omega arith
@@ -117,28 +58,16 @@ within_by h w false =
     omega (arith, e, a, b)
 
 head_within : (before : Units) → length (bytes_or_none (head_of (from_last_sequence before))) ≤ length (joined before)
-head_within before = elim (last_of before) [
-  | inl none ↦ subst (λ (l : Units). length (bytes_or_none (head_of l)) ≤ length (joined before)) (sym none) (omega arith)
-  | inr x ↦
-      let own = within_by x.1 x.2 (has_matrices (behind_extensions x.2) || not (nat_le (length (joined (x.1 ∷ extensions_first x.2))) most_head)) in
-      let all = ap (λ (l : Units). length (joined l)) x.4 ∙ ap length (joined-append x.0 (x.1 ∷ x.2)) ∙ length-append (joined x.0) (joined (x.1 ∷ x.2)) in
-      subst (λ (l : Units). length (bytes_or_none (head_of l)) ≤ length (joined before)) (sym x.3) (omega (arith, own, all))
+head_within before = elim (cases_Bool (has_sequence before)) [
+  | inl on ↦
+      let x = last_found before on in
+      let own = within_by x.h x.later (has_matrices (behind_extensions x.later) || not (nat_le (length (joined (x.h ∷ extensions_first x.later))) most_head)) in
+      let all = ap (λ (l : Units). length (joined l)) x.whole ∙ ap length (joined-append x.before (x.h ∷ x.later)) ∙ length-append (joined x.before) (joined (x.h ∷ x.later)) in
+      subst (λ (l : Units). length (bytes_or_none (head_of l)) ≤ length (joined before)) (sym x.last) (omega (arith, own, all))
+  | inr off ↦ subst (λ (l : Units). length (bytes_or_none (head_of l)) ≤ length (joined before)) (sym (none_last before off)) (omega arith)
 ]
 
 -- ---- the pieces of a span
-
-end_append : (us vs : Units) → has_end us ≡ false → has_end vs ≡ false → has_end (us ++ vs) ≡ false
-unfolding has_end
-end_append [] vs a b = b
-end_append (u ∷ us) vs a b = let p = or_parts (is_end (value_of u)) (has_end us) a in rw (p.0) (end_append us vs p.1 b)
-
-units_one : (w : List ℕ) → units_in (w ∷ []) ≡ units_of w
-unfolding units_in
-units_one w = append-nil (units_of w)
-
-no_units : units_in [] ≡ []
-unfolding units_in
-no_units = refl
 
 units_more : (ps : List (List ℕ)) (w : List ℕ) → units_in (ps ++ w ∷ []) ≡ units_in ps ++ units_of w
 units_more ps w = units_append ps (w ∷ []) ∙ ap (λ (l : Units). units_in ps ++ l) (units_one w)
@@ -200,14 +129,6 @@ next_ended (Some (b ∷ bytes)) m e = tt
 
 -- ---- with one more piece
 
-piece_begins : (g : Gathering) (w : List ℕ) → begins_step g.waiting w ≡ true → with_piece g w ≡ begun_with g w
-unfolding with_piece
-piece_begins g w on = rw on refl
-
-piece_joins : (g : Gathering) (w : List ℕ) → begins_step g.waiting w ≡ false → with_piece g w ≡ joined_with g w
-unfolding with_piece
-piece_joins g w off = rw off refl
-
 none_yet : (t : Tally) (place : ℕ) (before : Units) → with_all t (placed place before []) ≡ t
 unfolding with_all placed
 none_yet t place before = refl
@@ -216,7 +137,7 @@ first_begun : (t : Tally) (place : ℕ) (before : Units) (waiting : ℕ) (w : Li
     → begun_with (record { tally = t; place = place; before = before; pieces = []; waiting = waiting }) w ≡ joined_with (record { tally = t; place = place; before = before; pieces = []; waiting = waiting }) w
 first_begun t place before waiting w =
     let at : place + length (joined []) ≡ place = omega arith in
-    let us : before ++ units_in [] ≡ before = ap (λ (l : Units). before ++ l) no_units ∙ append-nil before in
+    let us : before ++ units_in [] ≡ before = ap (λ (l : Units). before ++ l) none_units ∙ append-nil before in
     rw (none_yet t place before, at, us) refl
 
 -- the first piece of a stretch, whether a step begins with it or not
@@ -237,7 +158,7 @@ first_span : (place : ℕ) (before : Units) (ps : List (List ℕ)) (at : ℕ) (w
     → ◌≡◌ {A = Span} (record { place = at; head = head_of (from_last_sequence (before ++ units_in ps)); pieces = w ∷ [] }) (record { place = place; head = head_of (from_last_sequence before); pieces = ps ++ w ∷ [] })
 first_span place before [] at w none e =
     let same : at ≡ place = e ∙ omega arith in
-    let us : before ++ units_in [] ≡ before = ap (λ (l : Units). before ++ l) no_units ∙ append-nil before in
+    let us : before ++ units_in [] ≡ before = ap (λ (l : Units). before ++ l) none_units ∙ append-nil before in
     rw (same, us) refl
 first_span place before (p ∷ ps) at w none e = absurd cc
 
@@ -361,14 +282,6 @@ finished_one g some = finished_by g.tally g.place g.before g.pieces some
 pub finished_none : (g : Gathering) → g.pieces ≡ [] → finished g ≡ g.tally
 finished_none g none = ap (λ (ps : List (List ℕ)). with_all g.tally (placed g.place g.before (span_of ps))) none ∙ none_yet g.tally g.place g.before
 
-picture_is : (us : Units) → has_picture us ≡ nat_lt 0 (picture_count us)
-unfolding has_picture picture_count
-picture_is [] = refl
-picture_is (u ∷ us) = elim (cases_Bool (is_picture u)) [
-  | inl on ↦ rw on (sym (lt-ltb 0 (1 + picture_count us) (omega arith)))
-  | inr off ↦ let none : 0 + picture_count us ≡ picture_count us = omega arith in rw (off, none) (picture_is us)
-]
-
 pub group_is : (s : Span) (x : SpanParts) → IsSpan s x → (x.entry && nat_lt 0 x.pictures) ≡ is_group_span s
 group_is s x is = rw (is.entry, is.pictures, picture_is (units_in s.pieces)) refl
 
@@ -393,9 +306,9 @@ folded_new place x made heads parts waiting groups pictures = record {
   made = made;
   groups = groups;
   pictures = pictures;
-  heads = subst (λ (l : Units). IsHeads l x.heads) (sym no_units) heads;
+  heads = subst (λ (l : Units). IsHeads l x.heads) (sym none_units) heads;
   before = omega arith;
-  are = subst AreUnits (sym no_units) tt;
+  are = subst AreUnits (sym none_units) tt;
   no_end = refl;
   at_hand = subst (IsAtHand (before_stretch nothing_told place [])) (sym parts) refl;
   waiting = waiting;
@@ -403,12 +316,12 @@ folded_new place x made heads parts waiting groups pictures = record {
 }
 
 bytes_all : (g : Gathering) (o : Option SpanParts) → IsAtHand g o → length (joined (units_in g.pieces)) ≡ length (joined g.pieces)
-bytes_all g None none = ap (λ (l : List (List ℕ)). length (joined (units_in l))) none ∙ ap (λ (l : Units). length (joined l)) no_units ∙ sym (ap (λ (l : List (List ℕ)). length (joined l)) none)
+bytes_all g None none = ap (λ (l : List (List ℕ)). length (joined (units_in l))) none ∙ ap (λ (l : Units). length (joined l)) none_units ∙ sym (ap (λ (l : List (List ℕ)). length (joined l)) none)
 bytes_all g (Some x) has = ap length (span_bytes g.pieces has.2.pieces)
 
 end_all : (g : Gathering) (o : Option SpanParts) → IsAtHand g o → has_end (units_in g.pieces) ≡ false
 unfolding has_end
-end_all g None none = ap (λ (l : List (List ℕ)). has_end (units_in l)) none ∙ ap has_end no_units
+end_all g None none = ap (λ (l : List (List ℕ)). has_end (units_in l)) none ∙ ap has_end none_units
 end_all g (Some x) has = span_end g.pieces has.2.pieces
 
 pub folded_ended : (written : List ℕ) (listed : List mending.Gap) (g : Gathering) (place : ℕ) (old new : Folding) → IsFolded written listed g old → g.place + length (joined g.pieces) ≤ place
@@ -416,7 +329,7 @@ pub folded_ended : (written : List ℕ) (listed : List mending.Gap) (g : Gatheri
     → IsFolded written listed (before_stretch (stretch_ended (finished g)) place (g.before ++ units_in g.pieces)) new
 folded_ended written listed g place old new f le t heads parts waiting =
     let us = g.before ++ units_in g.pieces in
-    let same : us ++ units_in [] ≡ us = ap (λ (l : Units). us ++ l) no_units ∙ append-nil us in
+    let same : us ++ units_in [] ≡ us = ap (λ (l : Units). us ++ l) none_units ∙ append-nil us in
     let all = ap length (joined-append g.before (units_in g.pieces)) ∙ length-append (joined g.before) (joined (units_in g.pieces)) in
     record {
       made = t.made;

@@ -35,7 +35,12 @@ unfolding from_sequence
 from_units [] are = tt
 from_units (u ∷ us) are = elim (cases_Bool (is_sequence u)) [ inl on ↦ rw on are | inr off ↦ rw off (from_units us are.3) ]
 
-from_there : (us : Units) → has_sequence us ≡ true → 1 ≤ length (from_sequence us)
+pub from_front : (us vs : Units) → has_sequence us ≡ true → from_sequence (us ++ vs) ≡ from_sequence us ++ vs
+unfolding has_sequence from_sequence
+from_front [] vs h = absurd cc
+from_front (u ∷ us) vs h = elim (cases_Bool (is_sequence u)) [ inl on ↦ rw on refl | inr off ↦ rw off (from_front us vs (rw off at h)) ]
+
+pub from_there : (us : Units) → has_sequence us ≡ true → 1 ≤ length (from_sequence us)
 unfolding has_sequence from_sequence
 from_there [] h = absurd cc
 from_there (u ∷ us) h = elim (cases_Bool (is_sequence u)) [ inl on ↦ rw on (omega arith) | inr off ↦ rw off (from_there us (rw off at h)) ]

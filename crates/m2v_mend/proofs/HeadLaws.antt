@@ -3,13 +3,16 @@ use Rattle.std.proofs.Common.{◌≡◌, ◌⊎◌, ℕ, ◌+◌, ◌-◌, ◌<�
 use Rattle.std.specs.Prelude.{nat_eq, nat_le, ◌&&◌, ◌||◌, not, if◌then◌else◌}
 use Rattle.std.proofs.lemmas.Bool.{cases_Bool, both_ways, leb-true, le-leb}
 use Rattle.std.proofs.lemmas.List.{length-append, length-drop, length-replicate, drop-drop, drop-append-le, drop_at, take_at, take-append-le, take_all, drop_all}
+use Rattle.std.proofs.Math.Bool.{and-false, or-false, or-true, or_assoc, or_comm}
 use Rattle.m2v_model.specs.Units.{Units, joined, AreUnits}
 use Rattle.m2v_model.specs.Streams.{value_of}
-use Rattle.m2v_model.proofs.CutLaws.{joined-append, cut_units}
+use Rattle.m2v_model.proofs.CutLaws.{cut_units}
 use Rattle.m2v_dec_unit.specs.Texts.{text_of, IsZeroEnded}
 use Rattle.m2v_dec_unit.proofs.Cuts.{ended_next, none_left}
 use Rattle.m2v_law_group.specs.Groups.{is_sequence, has_sequence, from_last_sequence}
+use Rattle.m2v_law_group.proofs.Lists.{or_parts}
 use Rattle.m2v_law_seam.specs.Spans.{units_of, is_extension, is_matrices, has_matrices, extensions_first, behind_extensions, most_head}
+use Rattle.m2v_law_seam.proofs.Pieced.{joined_one}
 use Rattle.m2v_mend.specs.declared.head.Heads.{Heads}
 use Rattle.m2v_mend.specs.Editing.{IsWhole, IsFirstLength}
 use Rattle.m2v_mend.specs.Heading.{is_empty, is_long, IsHeader, KnowsHeader, IsHeads, IsAppended, IsBehind, IsLeftOut}
@@ -17,26 +20,10 @@ use Rattle.m2v_mend.proofs.EditLaws.{none_in_zeros, where_unit, are_units, first
 
 -- ---- units with one more
 
-or_right : (a : Bool) → (a || true) ≡ true
-or_right true = refl
-or_right false = refl
-
-or_none : (a : Bool) → (a || false) ≡ a
-or_none true = refl
-or_none false = refl
-
-and_off : (a : Bool) → (a && false) ≡ false
-and_off true = refl
-and_off false = refl
-
-or_or : (a b c : Bool) → ((a || b) || c) ≡ (a || (b || c))
-or_or true b c = refl
-or_or false b c = refl
-
 has_snoc : (us : Units) (u : List ℕ) → has_sequence (us ++ u ∷ []) ≡ (has_sequence us || is_sequence u)
 unfolding has_sequence
-has_snoc [] u = or_none (is_sequence u)
-has_snoc (v ∷ us) u = ap (λ (b : Bool). is_sequence v || b) (has_snoc us u) ∙ sym (or_or (is_sequence v) (has_sequence us) (is_sequence u))
+has_snoc [] u = or-false (is_sequence u)
+has_snoc (v ∷ us) u = ap (λ (b : Bool). is_sequence v || b) (has_snoc us u) ∙ sym (or_assoc (is_sequence v) (has_sequence us) (is_sequence u))
 
 none_last : from_last_sequence [] ≡ []
 unfolding from_last_sequence
@@ -55,8 +42,8 @@ last_step v us b e = rw e refl
 pub last_header : (us : Units) (u : List ℕ) → is_sequence u ≡ true → from_last_sequence (us ++ u ∷ []) ≡ u ∷ []
 last_header [] u on = one_last u true on
 last_header (v ∷ us) u on =
-    let more : has_sequence (us ++ u ∷ []) ≡ true = has_snoc us u ∙ ap (λ (b : Bool). has_sequence us || b) on ∙ or_right (has_sequence us) in
-    last_step v (us ++ u ∷ []) false (ap (λ (b : Bool). is_sequence v && not b) more ∙ and_off (is_sequence v)) ∙ last_header us u on
+    let more : has_sequence (us ++ u ∷ []) ≡ true = has_snoc us u ∙ ap (λ (b : Bool). has_sequence us || b) on ∙ or-true (has_sequence us) in
+    last_step v (us ++ u ∷ []) false (ap (λ (b : Bool). is_sequence v && not b) more ∙ and-false (is_sequence v)) ∙ last_header us u on
 
 -- another unit stands behind it, where there is one
 abbrev with_one : Units → List ℕ → Units
@@ -70,14 +57,18 @@ with_step v us u false ih = ih
 pub last_other : (us : Units) (u : List ℕ) → is_sequence u ≡ false → from_last_sequence (us ++ u ∷ []) ≡ with_one (from_last_sequence us) u
 last_other [] u off = one_last u false off ∙ ap (λ (l : Units). with_one l u) (sym none_last)
 last_other (v ∷ us) u off =
-    let same : has_sequence (us ++ u ∷ []) ≡ has_sequence us = has_snoc us u ∙ ap (λ (b : Bool). has_sequence us || b) off ∙ or_none (has_sequence us) in
+    let same : has_sequence (us ++ u ∷ []) ≡ has_sequence us = has_snoc us u ∙ ap (λ (b : Bool). has_sequence us || b) off ∙ or-false (has_sequence us) in
     let b = is_sequence v && not (has_sequence us) in
     last_step v (us ++ u ∷ []) b (ap (λ (x : Bool). is_sequence v && not x) same) ∙ with_step v us u b (last_other us u off) ∙ ap (λ (l : Units). with_one l u) (sym (last_step v us b refl))
 
+pub matrices_append : (us vs : Units) → has_matrices (us ++ vs) ≡ (has_matrices us || has_matrices vs)
+unfolding has_matrices
+matrices_append [] vs = refl
+matrices_append (u ∷ us) vs = ap (λ (b : Bool). is_matrices u || b) (matrices_append us vs) ∙ sym (or_assoc (is_matrices u) (has_matrices us) (has_matrices vs))
+
 matrices_snoc : (us : Units) (u : List ℕ) → has_matrices (us ++ u ∷ []) ≡ (has_matrices us || is_matrices u)
 unfolding has_matrices
-matrices_snoc [] u = or_none (is_matrices u)
-matrices_snoc (v ∷ us) u = ap (λ (b : Bool). is_matrices v || b) (matrices_snoc us u) ∙ sym (or_or (is_matrices v) (has_matrices us) (is_matrices u))
+matrices_snoc us u = matrices_append us (u ∷ []) ∙ ap (λ (b : Bool). has_matrices us || b) (or-false (is_matrices u))
 
 -- an extension right behind others
 record Joins (us : Units) (u : List ℕ) : Type 0 where
@@ -89,13 +80,13 @@ record Stands (us : Units) (u : List ℕ) : Type 0 where
   first : extensions_first (us ++ u ∷ []) ≡ extensions_first us
   behind : behind_extensions (us ++ u ∷ []) ≡ behind_extensions us ++ u ∷ []
 
-no_units : (extensions_first [] ≡ []) × (behind_extensions [] ≡ []) × (has_matrices [] ≡ false)
+pub no_extensions : (extensions_first [] ≡ []) × (behind_extensions [] ≡ []) × (has_matrices [] ≡ false)
 unfolding extensions_first behind_extensions has_matrices
-no_units = (refl, refl, refl)
+no_extensions = (refl, refl, refl)
 
-first_step : (v : List ℕ) (us : Units) (b : Bool) → is_extension v ≡ b → extensions_first (v ∷ us) ≡ (if b then v ∷ extensions_first us else [])
+pub extensions_step : (v : List ℕ) (us : Units) (b : Bool) → is_extension v ≡ b → extensions_first (v ∷ us) ≡ (if b then v ∷ extensions_first us else [])
 unfolding extensions_first
-first_step v us b e = rw e refl
+extensions_step v us b e = rw e refl
 
 behind_step : (v : List ℕ) (us : Units) (b : Bool) → is_extension v ≡ b → behind_extensions (v ∷ us) ≡ (if b then behind_extensions us else v ∷ us)
 unfolding behind_extensions
@@ -105,15 +96,15 @@ joins_step : (v : List ℕ) (us : Units) (u : List ℕ) (b : Bool) → is_extens
 joins_step v us u true x e ih =
     let i = ih (sym (ap is_empty (behind_step v us true x)) ∙ e) in
     record {
-      first = first_step v (us ++ u ∷ []) true x ∙ ap (λ (l : Units). v ∷ l) i.first ∙ sym (ap (λ (l : Units). l ++ u ∷ []) (first_step v us true x));
+      first = extensions_step v (us ++ u ∷ []) true x ∙ ap (λ (l : Units). v ∷ l) i.first ∙ sym (ap (λ (l : Units). l ++ u ∷ []) (extensions_step v us true x));
       behind = behind_step v (us ++ u ∷ []) true x ∙ i.behind;
     }
 joins_step v us u false x e ih = absurd (both_ways (is_empty (behind_extensions (v ∷ us))) (ap is_empty (behind_step v us false x)) e)
 
 joins : (us : Units) (u : List ℕ) → is_empty (behind_extensions us) ≡ true → is_extension u ≡ true → Joins us u
 joins [] u e on = record {
-  first = first_step u [] true on ∙ ap (λ (l : Units). u ∷ l) no_units.0 ∙ sym (ap (λ (l : Units). l ++ u ∷ []) no_units.0);
-  behind = behind_step u [] true on ∙ no_units.1;
+  first = extensions_step u [] true on ∙ ap (λ (l : Units). u ∷ l) no_extensions.0 ∙ sym (ap (λ (l : Units). l ++ u ∷ []) no_extensions.0);
+  behind = behind_step u [] true on ∙ no_extensions.1;
 }
 joins (v ∷ us) u e on = joins_step v us u (is_extension v) refl e (λ h. joins us u h on)
 
@@ -126,19 +117,19 @@ stands_step : (v : List ℕ) (us : Units) (u : List ℕ) (b : Bool) → is_exten
 stands_step v us u true x h ih =
     let i = ih (ends_within v us u x h) in
     record {
-      first = first_step v (us ++ u ∷ []) true x ∙ ap (λ (l : Units). v ∷ l) i.first ∙ sym (first_step v us true x);
+      first = extensions_step v (us ++ u ∷ []) true x ∙ ap (λ (l : Units). v ∷ l) i.first ∙ sym (extensions_step v us true x);
       behind = behind_step v (us ++ u ∷ []) true x ∙ i.behind ∙ sym (ap (λ (l : Units). l ++ u ∷ []) (behind_step v us true x));
     }
 stands_step v us u false x h ih = record {
-  first = first_step v (us ++ u ∷ []) false x ∙ sym (first_step v us false x);
+  first = extensions_step v (us ++ u ∷ []) false x ∙ sym (extensions_step v us false x);
   behind = behind_step v (us ++ u ∷ []) false x ∙ sym (ap (λ (l : Units). l ++ u ∷ []) (behind_step v us false x));
 }
 
 stands : (us : Units) (u : List ℕ) → (is_empty (behind_extensions us) ≡ false) ⊎ (is_extension u ≡ false) → Stands us u
-stands [] u (inl x) = absurd (both_ways (is_empty (behind_extensions [])) x (ap is_empty no_units.1))
+stands [] u (inl x) = absurd (both_ways (is_empty (behind_extensions [])) x (ap is_empty no_extensions.1))
 stands [] u (inr off) = record {
-  first = first_step u [] false off ∙ sym no_units.0;
-  behind = behind_step u [] false off ∙ sym (ap (λ (l : Units). l ++ u ∷ []) no_units.1);
+  first = extensions_step u [] false off ∙ sym no_extensions.0;
+  behind = behind_step u [] false off ∙ sym (ap (λ (l : Units). l ++ u ∷ []) no_extensions.1);
 }
 stands (v ∷ us) u h = stands_step v us u (is_extension v) refl h (stands us u)
 
@@ -155,10 +146,10 @@ heads_new h off most = record { known = subst (λ (l : Units). KnowsHeader l h) 
 pub heads_begun : (old mid new : Heads) (u : List ℕ) → is_sequence u ≡ true → mid.there ≡ true → mid.follows ≡ true → mid.lost ≡ false → mid.bytes.items ≡ [] → IsAppended mid u new → IsBehind old u new
 heads_begun old mid new u on there follows lost none a before h =
     let e : mid.bytes.items ++ u ≡ joined (u ∷ []) = ap (λ (l : List ℕ). l ++ u) none ∙ sym (append-nil u) in
-    let f : joined (u ∷ []) ≡ joined (u ∷ extensions_first []) = ap (λ (l : Units). joined (u ∷ l)) (sym no_units.0) in
+    let f : joined (u ∷ []) ≡ joined (u ∷ extensions_first []) = ap (λ (l : Units). joined (u ∷ l)) (sym no_extensions.0) in
     let header : IsHeader u [] new = record {
       there = a.there ∙ there;
-      follows = a.follows ∙ follows ∙ ap is_empty (sym no_units.1);
+      follows = a.follows ∙ follows ∙ ap is_empty (sym no_extensions.1);
       lost = a.lost ∙ ap (λ (b : Bool). b || is_long (mid.bytes.items ++ u)) lost ∙ ap is_long (e ∙ f) ∙ no_matrices (is_long (joined (u ∷ extensions_first [])));
       bytes = λ off. a.bytes off ∙ e ∙ f;
     } in
@@ -168,7 +159,7 @@ heads_begun old mid new u on there follows lost none a before h =
     }
   where
     no_matrices : (b : Bool) → b ≡ (has_matrices (behind_extensions []) || b)
-    no_matrices b = sym (ap (λ (x : Bool). x || b) (ap has_matrices no_units.1 ∙ no_units.2))
+    no_matrices b = sym (ap (λ (x : Bool). x || b) (ap has_matrices no_extensions.1 ∙ no_extensions.2))
 
 -- a longer header is too long if a shorter one is
 long_more : (a b : List ℕ) → (is_long a || is_long (a ++ b)) ≡ is_long (a ++ b)
@@ -176,11 +167,8 @@ long_more a b = elim (cases_Bool (nat_le (length (a ++ b)) most_head)) [
   | inl on ↦
       let short : nat_le (length a) most_head ≡ true = le-leb (length a) most_head (omega (arith, leb-true (length (a ++ b)) most_head on, length-append a b)) in
       ap (λ (x : Bool). not x || is_long (a ++ b)) short
-  | inr off ↦ ap (λ (x : Bool). is_long a || not x) off ∙ or_right (is_long a) ∙ ap not (sym off)
+  | inr off ↦ ap (λ (x : Bool). is_long a || not x) off ∙ or-true (is_long a) ∙ ap not (sym off)
 ]
-
-first_more : (u : List ℕ) (xs : Units) (v : List ℕ) → joined (u ∷ xs) ++ v ≡ joined (u ∷ (xs ++ v ∷ []))
-first_more u xs v = append_assoc u (joined xs) v ∙ ap (λ (l : List ℕ). u ++ l) (ap (λ (l : List ℕ). joined xs ++ l) (sym (append-nil v)) ∙ sym (joined-append xs (v ∷ [])))
 
 -- bytes that are known only where nothing is lost
 lost_more : (old new : Bool) (a b v : List ℕ) → (old ≡ false → a ≡ b) → (old || is_long (a ++ v)) ≡ new → old ≡ is_long b → new ≡ is_long (b ++ v)
@@ -194,23 +182,19 @@ appended_header u us old new v h follows on a =
     let nothing : has_matrices (behind_extensions us) ≡ false = none_there (behind_extensions us) empty in
     let own = joined (u ∷ extensions_first us) in
     let was : old.lost ≡ is_long own = h.lost ∙ ap (λ (b : Bool). b || is_long own) nothing in
-    let more : own ++ v ≡ joined (u ∷ extensions_first (us ++ v ∷ [])) = first_more u (extensions_first us) v ∙ ap (λ (l : Units). joined (u ∷ l)) (sym j.first) in
+    let more : own ++ v ≡ joined (u ∷ extensions_first (us ++ v ∷ [])) = joined_one u (extensions_first us) v ∙ ap (λ (l : Units). joined (u ∷ l)) (sym j.first) in
     let now : new.lost ≡ is_long (own ++ v) = lost_more old.lost new.lost old.bytes.items own v h.bytes (sym a.lost) was in
-    let none : has_matrices (behind_extensions (us ++ v ∷ [])) ≡ false = ap has_matrices j.behind ∙ no_units.2 in
+    let none : has_matrices (behind_extensions (us ++ v ∷ [])) ≡ false = ap has_matrices j.behind ∙ no_extensions.2 in
     record {
       there = a.there ∙ h.there;
       follows = a.follows ∙ follows ∙ ap is_empty (sym j.behind);
       lost = now ∙ ap is_long more ∙ ap (λ (b : Bool). b || is_long (joined (u ∷ extensions_first (us ++ v ∷ [])))) (sym none);
-      bytes = λ off. a.bytes off ∙ ap (λ (l : List ℕ). l ++ v) (h.bytes (still old.lost (is_long (old.bytes.items ++ v)) (sym a.lost ∙ off))) ∙ more;
+      bytes = λ off. a.bytes off ∙ ap (λ (l : List ℕ). l ++ v) (h.bytes (or_parts old.lost (is_long (old.bytes.items ++ v)) (sym a.lost ∙ off)).0) ∙ more;
     }
   where
     none_there : (xs : Units) → is_empty xs ≡ true → has_matrices xs ≡ false
-    none_there [] e = no_units.2
+    none_there [] e = no_extensions.2
     none_there (x ∷ xs) e = absurd (both_ways false refl e)
-
-    still : (a b : Bool) → (a || b) ≡ false → a ≡ false
-    still true b e = absurd (both_ways true e refl)
-    still false b e = refl
 
 appended_known : (l : Units) (old new : Heads) (v : List ℕ) → KnowsHeader l old → old.follows ≡ true → is_extension v ≡ true → IsAppended old v new → KnowsHeader (with_one l v) new
 appended_known [] old new v k follows on a = a.there ∙ k
@@ -233,7 +217,7 @@ passed_header u us old new v h end there follows lost bytes =
       there = there ∙ h.there;
       follows = follows ∙ sym (ap is_empty s.behind ∙ snoc_empty (behind_extensions us) v);
       lost = lost ∙ ap (λ (b : Bool). b || is_matrices v) h.lost ∙ swap (has_matrices (behind_extensions us)) (is_long own) (is_matrices v) ∙ ap (λ (b : Bool). b || is_long own) (sym more) ∙ ap (λ (l : List ℕ). has_matrices (behind_extensions (us ++ v ∷ [])) || is_long l) same;
-      bytes = λ off. bytes ∙ h.bytes (still old.lost (is_matrices v) (sym lost ∙ off)) ∙ same;
+      bytes = λ off. bytes ∙ h.bytes (or_parts old.lost (is_matrices v) (sym lost ∙ off)).0 ∙ same;
     }
   where
     ends : (old.follows ≡ false) ⊎ (is_extension v ≡ false) → (is_empty (behind_extensions us) ≡ false) ⊎ (is_extension v ≡ false)
@@ -241,13 +225,7 @@ passed_header u us old new v h end there follows lost bytes =
     ends (inr e) = inr e
 
     swap : (a b c : Bool) → ((a || b) || c) ≡ ((a || c) || b)
-    swap true b c = refl
-    swap false true c = sym (or_right c)
-    swap false false c = sym (or_none c)
-
-    still : (a b : Bool) → (a || b) ≡ false → a ≡ false
-    still true b e = absurd (both_ways true e refl)
-    still false b e = refl
+    swap a b c = or_assoc a b c ∙ ap (λ (x : Bool). a || x) (or_comm b c) ∙ sym (or_assoc a c b)
 
 passed_known : (l : Units) (old new : Heads) (v : List ℕ) → KnowsHeader l old → (old.follows ≡ false) ⊎ (is_extension v ≡ false) → new.there ≡ old.there → new.follows ≡ false → new.lost ≡ (old.lost || is_matrices v) → new.bytes.items ≡ old.bytes.items → KnowsHeader (with_one l v) new
 passed_known [] old new v k end there follows lost bytes = there ∙ k
@@ -378,23 +356,12 @@ kept_value kept z v le e = within_get kept z 3 (omega (arith, le)) ∙ e
 
 -- ---- units that change nothing
 
-either_off : (a b : Bool) → (a || b) ≡ false → (a ≡ false) × (b ≡ false)
-either_off true b e = absurd (both_ways true e refl)
-either_off false b e = (refl, e)
-
-has_first : (u : List ℕ) (us : Units) → has_sequence (u ∷ us) ≡ false → (is_sequence u ≡ false) × (has_sequence us ≡ false)
-unfolding has_sequence
-has_first u us e = either_off (is_sequence u) (has_sequence us) e
-
-matrices_first : (u : List ℕ) (us : Units) → has_matrices (u ∷ us) ≡ false → (is_matrices u ≡ false) × (has_matrices us ≡ false)
-unfolding has_matrices
-matrices_first u us e = either_off (is_matrices u) (has_matrices us) e
-
 -- behind a header that is whole: units without a sequence header and without a quant matrix extension
 pub heads_same : (us : Units) (h : Heads) → h.follows ≡ false → has_sequence us ≡ false → has_matrices us ≡ false → (before : Units) → IsHeads before h → IsHeads (before ++ us) h
+unfolding has_sequence has_matrices
 heads_same [] h f s m before k = subst (λ (l : Units). IsHeads l h) (sym (append-nil before)) k
 heads_same (u ∷ us) h f s m before k =
-    let a = has_first u us s in
-    let b = matrices_first u us m in
-    let lost : h.lost ≡ (h.lost || is_matrices u) = sym (ap (λ (x : Bool). h.lost || x) b.0 ∙ or_none h.lost) in
+    let a = or_parts (is_sequence u) (has_sequence us) s in
+    let b = or_parts (is_matrices u) (has_matrices us) m in
+    let lost : h.lost ≡ (h.lost || is_matrices u) = sym (ap (λ (x : Bool). h.lost || x) b.0 ∙ or-false h.lost) in
     subst (λ (l : Units). IsHeads l h) (append_assoc before (u ∷ []) us) (heads_same us h f a.1 b.1 (before ++ u ∷ []) (heads_passed h h u a.0 (inl f) refl f lost refl before k))

@@ -3,6 +3,7 @@ use Rattle.std.proofs.Common.{◌≡◌, ℕ, ◌+◌, ◌-◌, ◌*◌, ◌/◌
 use Rattle.std.specs.Prelude.{nat_eq, not, ◌||◌, cond, if◌then◌else◌, is_some, All}
 use Rattle.std.proofs.lemmas.Bool.{cases_Bool, eq-eqb, ne_eqb, eqb-true}
 use Rattle.std.proofs.lemmas.List.{take_at}
+use Rattle.std.proofs.Math.Bool.{not-not}
 use Rattle.m2v_model.specs.declared.fault.FaultKind.{FaultKind}
 use Rattle.m2v_model.specs.declared.fault.FaultKind.TheVariants.{FieldPair}
 use Rattle.m2v_model.specs.declared.state.FirstField.{FirstField}
@@ -26,10 +27,12 @@ use Rattle.m2v_decode.specs.Decoding as decoding
 use Rattle.m2v_decode.specs.Reading.{Reading, Follows, LeadsOn, nothing_read}
 use Rattle.m2v_decode.proofs.Following.{follows_none}
 use Rattle.m2v_law_group.specs.Groups.{has_sequence, from_sequence, is_sequence}
-use Rattle.m2v_law_seam.specs.Spans.{units_of, units_in, is_extension, extensions_first, Span}
+use Rattle.m2v_law_seam.specs.Spans.{units_of, units_in, is_extension, extensions_first, Span, behind_extensions}
 use Rattle.m2v_law_seam.specs.Seams.{bytes_or_none}
 use Rattle.m2v_law_seam.specs.Reading.{BeginsOnePiece}
 use Rattle.m2v_law_seam.specs.Faults.{only_header, header_by, header_units, header_place}
+use Rattle.m2v_law_seam.proofs.Placing.{placed_ok}
+use Rattle.m2v_law_seam.proofs.Tame.{extensions_parts}
 use Rattle.m2v_mend.specs.declared.header.Header.{Header}
 use Rattle.m2v_mend.specs.declared.member.Member.{Member}
 use Rattle.m2v_mend.specs.declared.parts.SpanParts.{SpanParts}
@@ -39,20 +42,10 @@ use Rattle.m2v_mend.specs.Strand.{AreInTurn}
 use Rattle.m2v_mend.specs.Opening.{bodies, IsCopy}
 use Rattle.m2v_mend.specs.Header.{IsFront, HeaderTold, IsHeaded}
 use Rattle.m2v_mend.proofs.CopyEdits.{copy_whole}
+use Rattle.m2v_mend.proofs.FrontLaws.{from_front, from_there}
+use Rattle.m2v_mend.proofs.HeadLaws.{no_extensions, extensions_step}
 
 -- ---- how long it is
-
-extensions_none : extensions_first [] ≡ []
-unfolding extensions_first
-extensions_none = refl
-
-extensions_on : (u : List ℕ) (us : Units) → is_extension u ≡ true → extensions_first (u ∷ us) ≡ u ∷ extensions_first us
-unfolding extensions_first
-extensions_on u us e = rw e refl
-
-extensions_off : (u : List ℕ) (us : Units) → is_extension u ≡ false → extensions_first (u ∷ us) ≡ []
-unfolding extensions_first
-extensions_off u us e = rw e refl
 
 -- ---- what is read
 
@@ -66,10 +59,6 @@ read_by es b end false e = ap (λ (c : Bool). header_by (cond c (Ok (es, b)) (Er
 
 header_text : (text : List ℕ) (r : Course) → units_read at_start (units_of text) ≡ r → header_by (text_read text) ≡ header_by (finished (length text) r)
 header_text text r e = ap header_by (text_is text ∙ ap (finished (length text)) e)
-
-placed_ok : (end : ℕ) (r : Course) (x : Events × Between) → placed end r ≡ Ok x → r ≡ Ok x
-placed_ok end (Ok y) x e = e
-placed_ok end (Err f) x e = absurd cc
 
 faulty : (end n : ℕ) (r : Course) (f : FaultKind × ℕ) → placed end r ≡ Err f → header_by (finished n r) ≡ None
 faulty end n (Ok y) f e = absurd cc
@@ -103,13 +92,9 @@ header_read p old notes r is told =
 told_by : (p : Piece) (r : Reading) (b : Bool) → HeaderRead (whole_of p) r → is_some r.state.waiting ≡ b → header_by (text_read (whole_of p)) ≡ (if b then None else r.state.first)
 told_by p r b h e =
     let w = whole_of p in
-    let waits : none_waits (h.behind).state.waiting ≡ not b = ap (λ (st : State). none_waits st.waiting) h.state ∙ flip (none_waits r.state.waiting) ∙ ap not (sym (waits_by r.state.waiting) ∙ e) in
+    let waits : none_waits (h.behind).state.waiting ≡ not b = ap (λ (st : State). none_waits st.waiting) h.state ∙ sym (not-not (none_waits r.state.waiting)) ∙ ap not (sym (waits_by r.state.waiting) ∙ e) in
     header_text w (Ok (h.events, h.behind)) h.read ∙ pick b (none_waits (h.behind).state.waiting) refl waits
   where
-    flip : (c : Bool) → c ≡ not (not c)
-    flip true = refl
-    flip false = refl
-
     pick : (b c : Bool) → none_waits (h.behind).state.waiting ≡ c → c ≡ not b → header_by (finished (length (whole_of p)) (Ok (h.events, h.behind))) ≡ (if b then None else r.state.first)
     pick true true ec e = absurd cc
     pick true false ec e = read_by h.events h.behind (length (whole_of p)) false ec
@@ -126,36 +111,28 @@ header_told p old notes r b o start told e off is = is ∙ sym (told_by p r fals
 
 pub length_none : (all us : Units) (total : ℕ) → total + unit_bits (extensions_first us) ≡ unit_bits (only_header all) + unit_bits us → us ≡ [] → total / 8 ≡ length (joined (only_header all))
 length_none all us total e none =
-    let x = ap (λ (l : Units). unit_bits (extensions_first l)) none ∙ ap unit_bits extensions_none in
+    let x = ap (λ (l : Units). unit_bits (extensions_first l)) none ∙ ap unit_bits no_extensions.0 in
     omega (arith, e, x, ap unit_bits none, joined_bits (only_header all))
 
 pub length_here : (all us rest : Units) (u : List ℕ) (total left v : ℕ) → total + unit_bits (extensions_first us) ≡ unit_bits (only_header all) + unit_bits us → us ≡ u ∷ rest → v ≡ value_of u → (v ≡ 0xB5 → ⊥) → left ≡ unit_bits us → (total - left) / 8 ≡ length (joined (only_header all))
 length_here all us rest u total left v e is value other l =
     let off : is_extension u ≡ false = ne_eqb (value_of u) 0xB5 (λ z. other (value ∙ z)) in
-    let x = ap (λ (t : Units). unit_bits (extensions_first t)) is ∙ ap unit_bits (extensions_off u rest off) in
+    let x = ap (λ (t : Units). unit_bits (extensions_first t)) is ∙ ap unit_bits (extensions_step u rest false off) in
     omega (arith, e, x, l, joined_bits (only_header all))
 
 pub length_more : (all us rest : Units) (u : List ℕ) (total v : ℕ) → total + unit_bits (extensions_first us) ≡ unit_bits (only_header all) + unit_bits us → unit_bits us ≤ total → us ≡ u ∷ rest → v ≡ value_of u → v ≡ 0xB5
     → (unit_bits rest ≤ total) × (total + unit_bits (extensions_first rest) ≡ unit_bits (only_header all) + unit_bits rest)
 length_more all us rest u total v e less is value on =
     let same : is_extension u ≡ true = eq-eqb (value_of u) 0xB5 (sym value ∙ on) in
-    let x = ap (λ (t : Units). unit_bits (extensions_first t)) is ∙ ap unit_bits (extensions_on u rest same) in
+    let x = ap (λ (t : Units). unit_bits (extensions_first t)) is ∙ ap unit_bits (extensions_step u rest true same) in
     let y = ap unit_bits is in
     (omega (arith, less, y), omega (arith, e, x, y))
 
 -- ---- what is read of the header alone
 
-extensions_parts : (us : Units) → (rest : Units) × (us ≡ extensions_first us ++ rest)
-unfolding extensions_first
-extensions_parts [] = ([], refl)
-extensions_parts (u ∷ us) = elim (cases_Bool (is_extension u)) [
-  | inl on ↦ let i = extensions_parts us in (i.0, rw on (ap (λ (l : Units). u ∷ l) i.1))
-  | inr off ↦ (u ∷ us, rw off refl)
-]
-
 only_parts : (us : Units) → (rest : Units) × (us ≡ only_header us ++ rest)
 only_parts [] = ([], refl)
-only_parts (u ∷ us) = let i = extensions_parts us in (i.0, ap (λ (l : Units). u ∷ l) i.1)
+only_parts (u ∷ us) = (behind_extensions us, ap (λ (l : Units). u ∷ l) (extensions_parts us))
 
 pub header_is : (p q : Piece) (n : ℕ) (o : Option Sequence) → n ≡ length (joined (only_header (units_of (whole_of p)))) → IsFront p n q → o ≡ header_by (text_read (whole_of q)) → HeaderTold p o
 header_is p q n o is f e = λ units.
@@ -174,10 +151,10 @@ OtherFirst (u ∷ us) = is_extension u ≡ false
 
 extensions_front : (us vs : Units) → OtherFirst vs → extensions_first (us ++ vs) ≡ extensions_first us
 extensions_front [] [] h = refl
-extensions_front [] (v ∷ vs) h = extensions_off v vs h ∙ sym extensions_none
+extensions_front [] (v ∷ vs) h = extensions_step v vs false h ∙ sym no_extensions.0
 extensions_front (u ∷ us) vs h = elim (cases_Bool (is_extension u)) [
-  | inl on ↦ extensions_on u (us ++ vs) on ∙ ap (λ (l : Units). u ∷ l) (extensions_front us vs h) ∙ sym (extensions_on u us on)
-  | inr off ↦ extensions_off u (us ++ vs) off ∙ sym (extensions_off u us off)
+  | inl on ↦ extensions_step u (us ++ vs) true on ∙ ap (λ (l : Units). u ∷ l) (extensions_front us vs h) ∙ sym (extensions_step u us true on)
+  | inr off ↦ extensions_step u (us ++ vs) false off ∙ sym (extensions_step u us false off)
 ]
 
 only_front : (us vs : Units) → 1 ≤ length us → OtherFirst vs → only_header (us ++ vs) ≡ only_header us
@@ -200,20 +177,10 @@ unfolding units_in
 later_other [] a = tt
 later_other (p ∷ ps) a = begins_other (units_of p) (units_in ps) (a.0).begins
 
-from_append : (us vs : Units) → has_sequence us ≡ true → from_sequence (us ++ vs) ≡ from_sequence us ++ vs
-unfolding has_sequence from_sequence
-from_append [] vs h = absurd cc
-from_append (u ∷ us) vs h = elim (cases_Bool (is_sequence u)) [ inl on ↦ rw on refl | inr off ↦ rw off (from_append us vs (rw off at h)) ]
-
 before_append : (us vs : Units) → has_sequence us ≡ true → before_sequence (us ++ vs) ≡ before_sequence us
 unfolding has_sequence before_sequence
 before_append [] vs h = absurd cc
 before_append (u ∷ us) vs h = elim (cases_Bool (is_sequence u)) [ inl on ↦ rw on refl | inr off ↦ rw off (ap (λ (l : List ℕ). u ++ l) (before_append us vs (rw off at h))) ]
-
-from_some : (us : Units) → has_sequence us ≡ true → 1 ≤ length (from_sequence us)
-unfolding has_sequence from_sequence
-from_some [] h = absurd cc
-from_some (u ∷ us) h = elim (cases_Bool (is_sequence u)) [ inl on ↦ rw on (omega arith) | inr off ↦ rw off (from_some us (rw off at h)) ]
 
 -- of pieces of which the first one has a sequence header
 own_units_are : (place : ℕ) (head : Option (List ℕ)) (p : List ℕ) (ps : List (List ℕ)) → has_sequence (units_of p) ≡ true → AreLater ps → only_header (header_units (record { place = place; head = head; pieces = p ∷ ps })) ≡ only_header (from_sequence (units_of p))
@@ -222,7 +189,7 @@ own_units_are place head p ps on later =
     let us = units_of p in
     let vs = units_in ps in
     ap (λ (b : Bool). only_header (if b then from_sequence (us ++ vs) else units_of (bytes_or_none head))) on
-    ∙ ap only_header (from_append us vs on) ∙ only_front (from_sequence us) vs (from_some us on) (later_other ps later)
+    ∙ ap only_header (from_front us vs on) ∙ only_front (from_sequence us) vs (from_there us on) (later_other ps later)
 
 own_place_is : (place : ℕ) (head : Option (List ℕ)) (p : List ℕ) (ps : List (List ℕ)) → has_sequence (units_of p) ≡ true → header_place (record { place = place; head = head; pieces = p ∷ ps }) ≡ 8 * (place + length (before_sequence (units_of p)))
 unfolding units_in

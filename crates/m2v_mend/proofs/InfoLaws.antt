@@ -3,6 +3,7 @@ use Rattle.std.proofs.Common.{◌≡◌, ℕ, ◌+◌, ◌-◌, ◌*◌, ◌/◌
 use Rattle.std.specs.Prelude.{nat_eq, nat_le, ◌||◌, if◌then◌else◌, Option, Some, None}
 use Rattle.std.proofs.lemmas.Bool.{le-leb, eq-eqb, ne_eqb}
 use Rattle.std.proofs.lemmas.List.{length-append}
+use Rattle.std.proofs.Math.Bool.{or-false, or_assoc}
 use Rattle.m2v_model.specs.Units.{Units, joined, unit_bits, body, Next}
 use Rattle.m2v_model.specs.Looking.{number_from}
 use Rattle.m2v_model.specs.Streams.{value_of}
@@ -22,18 +23,10 @@ unfoldable pub counted_from : Counted → Units → Counted
 counted_from c [] = c
 counted_from c (u ∷ us) = counted_from (counted_with u c) us
 
-or_or : (a b c : Bool) → ((a || b) || c) ≡ (a || (b || c))
-or_or true b c = refl
-or_or false b c = refl
-
-or_none : (a : Bool) → a ≡ (a || false)
-or_none true = refl
-or_none false = refl
-
 sequence_from : (us : Units) (c : Counted) → (counted_from c us).sequence ≡ (c.sequence || has_sequence us)
 unfolding counted_from has_sequence
-sequence_from [] c = or_none c.sequence
-sequence_from (u ∷ us) c = sequence_from us (counted_with u c) ∙ or_or c.sequence (is_sequence u) (has_sequence us)
+sequence_from [] c = sym (or-false c.sequence)
+sequence_from (u ∷ us) c = sequence_from us (counted_with u c) ∙ or_assoc c.sequence (is_sequence u) (has_sequence us)
 
 group_by : (b : Bool) (n : ℕ) → nat_le 1 ((if b then 1 else 0) + n) ≡ (b || nat_le 1 n)
 group_by true n = le-leb 1 (1 + n) (omega arith)
@@ -41,8 +34,8 @@ group_by false n = let e : 0 + n ≡ n = omega arith in ap (λ (m : ℕ). nat_le
 
 group_from : (us : Units) (c : Counted) → (counted_from c us).group ≡ (c.group || has_group us)
 unfolding counted_from group_headers
-group_from [] c = or_none c.group
-group_from (u ∷ us) c = group_from us (counted_with u c) ∙ or_or c.group (is_group u) (has_group us) ∙ ap (λ (b : Bool). c.group || b) (sym (group_by (is_group u) (group_headers us)))
+group_from [] c = sym (or-false c.group)
+group_from (u ∷ us) c = group_from us (counted_with u c) ∙ or_assoc c.group (is_group u) (has_group us) ∙ ap (λ (b : Bool). c.group || b) (sym (group_by (is_group u) (group_headers us)))
 
 pictures_by : (b : Bool) (n m : ℕ) → (if b then n + 1 else n) + m ≡ n + ((if b then 1 else 0) + m)
 pictures_by true n m = omega arith
@@ -55,8 +48,8 @@ pictures_from (u ∷ us) c = pictures_from us (counted_with u c) ∙ pictures_by
 
 matrices_from : (us : Units) (c : Counted) → (counted_from c us).matrices ≡ (c.matrices || has_matrices us)
 unfolding counted_from has_matrices
-matrices_from [] c = or_none c.matrices
-matrices_from (u ∷ us) c = matrices_from us (counted_with u c) ∙ or_or c.matrices (is_matrices u) (has_matrices us)
+matrices_from [] c = sym (or-false c.matrices)
+matrices_from (u ∷ us) c = matrices_from us (counted_with u c) ∙ or_assoc c.matrices (is_matrices u) (has_matrices us)
 
 place_on : (us : Units) (c : Counted) → c.matrices ≡ true → (counted_from c us).matrices_place ≡ c.matrices_place
 unfolding counted_from
@@ -151,7 +144,7 @@ no_before : before_picture 0 [] ≡ []
 unfolding before_picture
 no_before = refl
 
-picture_here : (u : List ℕ) (us : Units) → is_picture u ≡ true → before_picture 0 (u ∷ us) ≡ []
+pub picture_here : (u : List ℕ) (us : Units) → is_picture u ≡ true → before_picture 0 (u ∷ us) ≡ []
 unfolding before_picture
 picture_here u us on = rw on refl
 

@@ -1,8 +1,9 @@
 -- The last unit of a piece, and of pieces: whether it ends in the prefix of a start code.
 use Rattle.std.proofs.Common.{◌≡◌, ℕ, zero, suc, ◌*◌, ◌≤◌, ◌<◌, Bool, true, false, List, [], ◌∷◌, ◌++◌, length, ◌-◌, refl, sym, ap, ◌∙◌, append-nil, arith}
-use Rattle.std.specs.Prelude.{nat_eq, nat_le, ◌&&◌, ◌||◌, slice_index}
+use Rattle.std.specs.Prelude.{nat_eq, nat_le, ◌&&◌, slice_index}
 use Rattle.std.proofs.lemmas.Bool.{le-leb, leb-true}
 use Rattle.std.proofs.lemmas.List.{length-append}
+use Rattle.std.proofs.Math.Bool.{and-false, or-false}
 use Rattle.m2v_model.specs.Units.{Units, cut, joined, AreUnits}
 use Rattle.m2v_model.proofs.CutLaws.{cut_cuts}
 use Rattle.m2v_law_seam.specs.Spans.{units_of, units_in}
@@ -44,15 +45,11 @@ last_by w front (u ∷ us) whole are =
 pub last_is : (w : List ℕ) → last_open (units_of w) ≡ (nat_le 56 (last_bits 0 (units_of w)) && ends_open w)
 last_is w = let c = cut_cuts w in last_by w (cut 0 w).0 (cut 0 w).1 c.whole c.are_units
 
-and_off : (b : Bool) → (b && false) ≡ false
-and_off true = refl
-and_off false = refl
-
 -- zero bytes at its end
 pub zeros_last : (bytes : List ℕ) (n : ℕ) → 0 < n → last_open (units_of (text_of bytes n)) ≡ false
 zeros_last bytes zero some = absurd (omega (arith, some))
 zeros_last bytes (suc n) some =
-    last_is (text_of bytes (suc n)) ∙ ap (λ (b : Bool). nat_le 56 (last_bits 0 (units_of (text_of bytes (suc n)))) && b) (open_zeros bytes n) ∙ and_off _
+    last_is (text_of bytes (suc n)) ∙ ap (λ (b : Bool). nat_le 56 (last_bits 0 (units_of (text_of bytes (suc n)))) && b) (open_zeros bytes n) ∙ and-false _
 
 -- ---- of the last of pieces
 
@@ -76,10 +73,6 @@ open_pieces (q ∷ ps) p a = open_by (units_of (whole_of q)) (units_in (wholes_o
 
 -- ---- the last three bytes
 
-or_none : (a : Bool) → (a || false) ≡ a
-or_none true = refl
-or_none false = refl
-
 pub short_tail : (w : List ℕ) → length w < 3 → ends_open w ≡ false
 unfolding ends_open
 short_tail [] lt = refl
@@ -93,7 +86,7 @@ unfolding ends_open
 tail_by [] le = absurd (omega (arith, le))
 tail_by (a ∷ []) le = absurd (omega (arith, le))
 tail_by (a ∷ b ∷ []) le = absurd (omega (arith, le))
-tail_by (a ∷ b ∷ c ∷ []) le = or_none (nat_eq a 0 && (nat_eq b 0 && nat_eq c 1))
+tail_by (a ∷ b ∷ c ∷ []) le = or-false (nat_eq a 0 && (nat_eq b 0 && nat_eq c 1))
 tail_by (a ∷ b ∷ c ∷ d ∷ w) le =
     let l = b ∷ c ∷ d ∷ w in
     let x : length (a ∷ l) - 3 ≡ suc (length l - 3) = omega arith in

@@ -1,41 +1,24 @@
 -- The pieces that a cutter hands out of a stretch lie one behind another, also without what stands before the first unit.
-use Rattle.std.proofs.Common.{◌≡◌, ℕ, ◌+◌, ◌≤◌, true, List, [], ◌∷◌, ◌++◌, length, take, drop, inl, inr, refl, sym, ap, subst, ◌∙◌, append_assoc, append-nil, arith}
+use Rattle.std.proofs.Common.{◌≡◌, ℕ, ◌+◌, ◌≤◌, true, List, [], ◌∷◌, ◌++◌, length, take, inl, inr, refl, sym, ap, subst, append-nil, arith}
 use Rattle.std.proofs.lemmas.Bool.{cases_Bool}
-use Rattle.std.proofs.lemmas.List.{length-append, take-append-drop}
+use Rattle.std.proofs.lemmas.List.{length-append}
 use Rattle.m2v_model.specs.declared.phase.Phase.{Phase}
 use Rattle.m2v_model.specs.declared.phase.Phase.TheVariants.{Before, Headers, Picture}
-use Rattle.m2v_model.specs.Units.{Units, cut, joined, Clear, Cuts}
+use Rattle.m2v_model.specs.Units.{Units, cut, joined}
 use Rattle.m2v_model.specs.Streams.{value_of}
 use Rattle.m2v_model.specs.Pieces.{phase_after, begins_piece, is_end, piece_of, grouped}
-use Rattle.m2v_model.proofs.CutLaws.{cut_cuts, cuts_is, joined-append, are_before, are_behind, are_code}
+use Rattle.m2v_model.proofs.CutLaws.{cut_cuts, cuts_is, are_behind}
 use Rattle.m2v_mend.specs.Feeding.{bare}
 use Rattle.m2v_mend.specs.Stretching.{Lie}
-use Rattle.m2v_mend.proofs.Bare.{At, IsOpen, at_clear, clear_before, bare_front, bare_code, bare_none, open_after, at_more, at_begin, unit_long, long_more, grown}
+use Rattle.m2v_mend.proofs.Bare.{At, IsOpen, bare_front, bare_code, bare_none, open_after, at_more, at_begin, unit_long, long_more, grown, front_cuts, code_cuts}
 
 -- what stands before the first unit of a piece
 front_of : (j : List ℕ) (vs us : Units) → At j vs us → (cut 0 (j ++ joined vs)).0 ≡ j
-front_of j vs us at =
-    let cuts : Cuts (j ++ joined vs) j vs = record { whole = refl; front_clear = at_clear j vs us at.clear; are_units = are_before vs us at.are } in
-    ap (λ (x : List ℕ × Units). x.0) (cuts_is (j ++ joined vs) j vs cuts)
+front_of j vs us at = ap (λ (x : List ℕ × Units). x.0) (cuts_is (j ++ joined vs) j vs (front_cuts j vs us at))
 
 -- of one that ends with an end code
 code_front : (j : List ℕ) (vs : Units) (u : List ℕ) (us : Units) → At j vs (u ∷ us) → (cut 0 ((j ++ joined vs) ++ take 4 u)).0 ≡ j
-code_front j vs u us at =
-    let code = vs ++ take 4 u ∷ [] in
-    let same : joined code ≡ joined vs ++ take 4 u = joined-append vs (take 4 u ∷ []) ∙ ap (λ (l : List ℕ). joined vs ++ l) (append-nil (take 4 u)) in
-    let bytes : (j ++ joined vs) ++ take 4 u ≡ j ++ joined code = append_assoc j (joined vs) (take 4 u) ∙ ap (λ (l : List ℕ). j ++ l) (sym same) in
-    let whole : joined (vs ++ u ∷ us) ≡ joined code ++ (drop 4 u ++ joined us) =
-    joined-append vs (u ∷ us)
-    ∙ ap (λ (l : List ℕ). joined vs ++ (l ++ joined us)) (sym (take-append-drop 4 u))
-    ∙ ap (λ (l : List ℕ). joined vs ++ l) (append_assoc (take 4 u) (drop 4 u) (joined us))
-    ∙ sym (append_assoc (joined vs) (take 4 u) (drop 4 u ++ joined us))
-    ∙ ap (λ (l : List ℕ). l ++ (drop 4 u ++ joined us)) (sym same) in
-    let cuts : Cuts ((j ++ joined vs) ++ take 4 u) j code = record {
-      whole = bytes;
-      front_clear = clear_before j (joined code) (drop 4 u ++ joined us) (subst (Clear 0 j) whole at.clear);
-      are_units = are_code vs us u at.are;
-    } in
-    ap (λ (x : List ℕ × Units). x.0) (cuts_is _ j code cuts)
+code_front j vs u us at = ap (λ (x : List ℕ × Units). x.0) (cuts_is _ j (vs ++ take 4 u ∷ []) (code_cuts j vs u us at))
 
 -- one piece, and no other behind it
 record Alone (start at : ℕ) (w : List ℕ) : Type 0 where

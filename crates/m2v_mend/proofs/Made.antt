@@ -2,13 +2,14 @@
 use Rattle.std.proofs.Common.{◌≡◌, ◌≢◌, ℕ, ◌+◌, ◌*◌, ◌≤◌, Bool, true, false, List, [], ◌∷◌, ◌++◌, length, map, Option, Some, None, Ok, refl, sym, ap, subst, ◌∙◌, append_assoc, append-nil, arith}
 use Rattle.std.specs.Prelude.{not, is_none, nat_eq, ◌&&◌, if◌then◌else◌, unwrap_or}
 use Rattle.std.specs.Option.{option_map}
-use Rattle.std.proofs.lemmas.Bool.{eqb-true}
+use Rattle.std.proofs.lemmas.Bool.{eqb-true, not-true, not-false, and_right}
 use Rattle.std.proofs.lemmas.List.{length-append, length-map, nil_from_length}
+use Rattle.std.proofs.Math.Bool.{and-false}
 use Rattle.m2v_model.specs.declared.fault.FaultKind.TheVariants.{Unsupported}
 use Rattle.m2v_model.specs.declared.state.Sequence.{Sequence}
 use Rattle.m2v_model.specs.Units.{Units, joined}
 use Rattle.m2v_model.proofs.CutLaws.{joined-append}
-use Rattle.m2v_law_group.specs.Groups.{is_sequence, has_sequence, from_sequence}
+use Rattle.m2v_law_group.specs.Groups.{has_sequence}
 use Rattle.m2v_law_group.proofs.Lists.{and_parts, or_parts}
 use Rattle.m2v_law_seam.specs.Spans.{units_of, units_in, has_group, begins_kind, has_matrices, Span}
 use Rattle.m2v_law_seam.specs.Seams.{lowered, text_behind, first_reference, leading, has_own_head, opened_pieces, opened}
@@ -18,9 +19,10 @@ use Rattle.m2v_law_seam.specs.Mending.{Gap, with_gap, Mending, strand_of, strand
 use Rattle.m2v_law_seam.specs.Told.{first_fault}
 use Rattle.m2v_law_seam.proofs.Chain.{reads_as, agree_self}
 use Rattle.m2v_law_seam.proofs.Fold.{begins_parts}
+use Rattle.m2v_law_seam.proofs.Tame.{sequence_append}
+use Rattle.m2v_law_seam.proofs.Pictures.{none_from}
 use Rattle.m2v_decode.specs.m2v_dec_piece.declared.answer.Piece.{Piece}
 use Rattle.m2v_decode.specs.m2v_dec_piece.declared.answer.Fault.{Fault}
-use Rattle.m2v_decode.specs.Decoding.{whole_of}
 use Rattle.m2v_mend.specs.declared.begin.Begun.{Begun}
 use Rattle.m2v_mend.specs.declared.begin.Leading.{Leading}
 use Rattle.m2v_mend.specs.declared.gap.Gap.{Gap as Kept}
@@ -32,6 +34,7 @@ use Rattle.m2v_mend.specs.Making.{fault_told, gap_told, fault_first, IsMade, IsU
 use Rattle.m2v_mend.specs.Mender.{over, IsWhyNot, WentOn}
 use Rattle.m2v_mend.specs.Strand.{StrandState, wholes_of, IsAt}
 use Rattle.m2v_mend.proofs.Gaps.{gap_behind, some_gap, left_more, fault_stays, first_gap}
+use Rattle.m2v_mend.proofs.Written.{wholes_append}
 
 -- ---- strands and that which is under way
 
@@ -104,27 +107,16 @@ pub some_there : (opening : Bool) (first : Option Sequence) (t : List ℕ) → i
 some_there opening first [] h = absurd cc
 some_there opening first (b ∷ s) h = (b, s, refl)
 
--- pieces without a sequence header have no text behind a strand without a byte
-none_from : (us : Units) → has_sequence us ≡ false → from_sequence us ≡ []
-unfolding has_sequence from_sequence
-none_from [] h = refl
-none_from (u ∷ us) h = let p = or_parts (is_sequence u) (has_sequence us) h in rw (p.0) (none_from us p.1)
-
-none_append : (us vs : Units) → has_sequence us ≡ false → has_sequence vs ≡ false → has_sequence (us ++ vs) ≡ false
-unfolding has_sequence
-none_append [] vs a b = b
-none_append (u ∷ us) vs a b = let p = or_parts (is_sequence u) (has_sequence us) a in rw (p.0) (none_append us vs p.1 b)
-
 later_none : (qs : List (List ℕ)) → AreLater qs → has_sequence (units_in qs) ≡ false
 unfolding has_sequence units_in
 later_none [] h = refl
-later_none (q ∷ qs) h = none_append (units_of q) (units_in qs) (or_parts (has_sequence (units_of q)) (has_group (units_of q)) h.1).0 (later_none qs h.2)
+later_none (q ∷ qs) h = sequence_append (units_of q) (units_in qs) (or_parts (has_sequence (units_of q)) (has_group (units_of q)) h.1).0 (later_none qs h.2)
 
 pub no_text : (ps : List (List ℕ)) (low : ℕ) → AreSpanPieces ps → has_own_head ps ≡ false → text_behind [] low ps ≡ []
 unfolding text_behind units_in
 no_text [] low h off = absurd h
 no_text (p ∷ ps) low h off =
-    ap (λ (us : Units). joined (lowered low us)) (none_from (units_of p ++ units_in ps) (none_append (units_of p) (units_in ps) off (later_none ps h.1)))
+    ap (λ (us : Units). joined (lowered low us)) (none_from (units_of p ++ units_in ps) (sequence_append (units_of p) (units_in ps) off (later_none ps h.1)))
 
 -- whether a span goes there
 pub goes_none : (m : Mending) (s : Span) → m.strand ≡ None → goes_behind m s ≡ false
@@ -136,23 +128,12 @@ goes_by m s bytes e short =
     ∙ ap (λ (b : Bool). b && is_strand m.opening m.first (bytes ++ text_behind bytes (low_of_span m s) s.pieces)) short
 
 pub goes_long : (m : Mending) (s : Span) → is_short s ≡ false → goes_behind m s ≡ false
-goes_long m s off = ap (λ (b : Bool). not (is_none m.strand) && (b && is_strand m.opening m.first (strand_with m s))) off ∙ none_by (not (is_none m.strand))
-  where
-    none_by : (b : Bool) → (b && false) ≡ false
-    none_by true = refl
-    none_by false = refl
+goes_long m s off = ap (λ (b : Bool). not (is_none m.strand) && (b && is_strand m.opening m.first (strand_with m s))) off ∙ and-false (not (is_none m.strand))
 
 pub with_long : (first : Option Sequence) (s : Span) → is_short s ≡ false → begins_strand first s ≡ false
 with_long first s off =
     ap (λ (b : Bool). has_head s && (begins_entry s.pieces && (begins_kind 1 s.pieces && (not (has_matrices (units_in (leading s.pieces))) && ((b && all_fit (opened_pieces s)) && is_strand false first (opened s)))))) off
-    ∙ none_by (has_head s) (begins_entry s.pieces) (begins_kind 1 s.pieces) (not (has_matrices (units_in (leading s.pieces))))
-  where
-    none_by : (a b c d : Bool) → (a && (b && (c && (d && false)))) ≡ false
-    none_by false b c d = refl
-    none_by true false c d = refl
-    none_by true true false d = refl
-    none_by true true true false = refl
-    none_by true true true true = refl
+    ∙ and_right (has_head s) _ (and_right (begins_entry s.pieces) _ (and_right (begins_kind 1 s.pieces) _ (and-false (not (has_matrices (units_in (leading s.pieces)))))))
 
 -- its fault
 pub fault_none : (m : Mending) (s : Span) → m.strand ≡ None → is_short s ≡ true → fault_of m.strand (low_of_span m s) m.first s ≡ fault_alone m.first s
@@ -304,24 +285,12 @@ pub same_leading : (s : Span) (k : ℕ) (frames place from : ℕ) (l : Leading) 
 same_leading s k frames place from l f p sum is = rw (f, sum, p, is.before, is.bytes, is.pictures) refl
 
 pub leading_some : (gs : List Gap) (k : ℕ) (s : Span) (l : Leading) → IsLeading s l → l.some ≡ true → with_gap gs (leading_gap k s) ≡ gaps_leading gs k s
-leading_some gs k s l is on = ap (λ (b : Bool). if b then gs else with_gap gs (leading_gap k s)) (sym (flip (nat_eq (length (leading s.pieces)) 0) (sym is.some ∙ on)))
-  where
-    flip : (b : Bool) → not b ≡ true → b ≡ false
-    flip true e = absurd cc
-    flip false e = refl
+leading_some gs k s l is on = ap (λ (b : Bool). if b then gs else with_gap gs (leading_gap k s)) (sym (not-true (nat_eq (length (leading s.pieces)) 0) (sym is.some ∙ on)))
 
 pub leading_none : (gs : List Gap) (k : ℕ) (s : Span) (l : Leading) → IsLeading s l → l.some ≡ false → gs ≡ gaps_leading gs k s
-leading_none gs k s l is off = ap (λ (b : Bool). if b then gs else with_gap gs (leading_gap k s)) (sym (flip (nat_eq (length (leading s.pieces)) 0) (sym is.some ∙ off)))
-  where
-    flip : (b : Bool) → not b ≡ false → b ≡ true
-    flip true e = refl
-    flip false e = absurd cc
+leading_none gs k s l is off = ap (λ (b : Bool). if b then gs else with_gap gs (leading_gap k s)) (sym (not-false (nat_eq (length (leading s.pieces)) 0) (sym is.some ∙ off)))
 
 -- ---- which of the three
-
-pub goes_on : (m : Mending) (s : Span) → goes_behind m s ≡ true → with_span m s ≡ put_behind m s
-unfolding with_span
-goes_on m s on = rw on refl
 
 pub begins_on : (m : Mending) (s : Span) → goes_behind m s ≡ false → begins_strand m.first s ≡ true → with_span m s ≡ strand_begun m s
 unfolding with_span
@@ -347,10 +316,6 @@ ended_same written listed m x bytes is all few = by m.strand refl
     by (Some (b ∷ t)) e = absurd (omega (arith, few, all, is.bytes, ap length (under_bytes m (b ∷ t) e), length-append (joined m.done) (b ∷ t)))
 
 -- ---- a strand has begun
-
-wholes_append : (ps qs : List Piece) → joined (wholes_of (ps ++ qs)) ≡ joined (wholes_of ps) ++ joined (wholes_of qs)
-wholes_append [] qs = refl
-wholes_append (p ∷ ps) qs = ap (λ (l : List ℕ). whole_of p ++ l) (wholes_append ps qs) ∙ sym (append_assoc (whole_of p) (joined (wholes_of ps)) (joined (wholes_of qs)))
 
 pub begun_made : (written : List ℕ) (listed : List Gap) (m : Mending) (s : Span) (b : Begun) (x y new : Mender) (pieces : List Piece)
     → IsMade written listed (record (over m) { gaps = gaps_leading m.gaps (frames_shown (strands_of m)) s }) x → WentOn s b.strand b.low x y → BeginTold m.first s [] pieces (Ok b)

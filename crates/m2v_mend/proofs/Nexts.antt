@@ -1,38 +1,26 @@
 -- The pieces of a stretch: each is units with one picture at most, and each but the first begins a piece.
-use Rattle.std.proofs.Common.{◌≡◌, ℕ, ◌≤◌, Bool, true, false, List, [], ◌∷◌, ◌++◌, length, map, inl, inr, refl, sym, ap, subst, ◌∙◌, arith}
-use Rattle.std.specs.Prelude.{nat_eq, ◌||◌}
-use Rattle.std.proofs.lemmas.Bool.{cases_Bool}
+use Rattle.std.proofs.Common.{◌≡◌, ℕ, ◌≤◌, Bool, true, false, List, [], ◌∷◌, length, map, refl, sym, ap, subst, ◌∙◌, arith}
 use Rattle.m2v_model.specs.declared.phase.Phase.TheVariants.{Headers}
 use Rattle.m2v_model.specs.Units.{Units, cut, joined, AreUnits}
-use Rattle.m2v_model.specs.Streams.{value_of}
-use Rattle.m2v_model.specs.Pieces.{begins_piece, is_end, grouped}
+use Rattle.m2v_model.specs.Pieces.{grouped}
 use Rattle.m2v_model.proofs.CutLaws.{cut_cuts, cut_units, are_before}
 use Rattle.m2v_model.proofs.ShiftLaws.{NoEnds}
 use Rattle.m2v_law_group.specs.Groups.{is_picture, to_end}
+use Rattle.m2v_law_group.proofs.Lists.{ended_units}
 use Rattle.m2v_law_seam.specs.Spans.{units_in, picture_count}
 use Rattle.m2v_law_seam.specs.Reading.{BeginsOnePiece, IsPieceOfUnits}
-use Rattle.m2v_law_seam.proofs.Pieced.{BeginsOne, AllBegin, AllUnits, Quiet, AllQuiet, pieced, units_joined}
+use Rattle.m2v_law_seam.proofs.Pieced.{BeginsOne, AllBegin, AllUnits, Quiet, AllQuiet, pieced, units_joined, plain_unit}
 use Rattle.m2v_mend.specs.Feeding.{from_end}
 use Rattle.m2v_mend.specs.Members.{IsOneOfUnits}
 use Rattle.m2v_mend.specs.Stretching.{AreNext}
+use Rattle.m2v_mend.proofs.Stretched.{units_parted}
 
 -- ---- one picture at most
-
-picture_begins : (u : List ℕ) → begins_piece (value_of u) ≡ false → is_picture u ≡ false
-unfolding begins_piece
-picture_begins u off = first (nat_eq (value_of u) 0x00) (nat_eq (value_of u) 0xB3) (nat_eq (value_of u) 0xB7) (nat_eq (value_of u) 0xB8) off
-  where
-    never : (b c d : Bool) → (true || b || c || d) ≡ false → ⊥
-    never b c d e = absurd cc
-
-    first : (a b c d : Bool) → (a || b || c || d) ≡ false → a ≡ false
-    first true b c d e = absurd (never b c d e)
-    first false b c d e = refl
 
 count_true : (us : Units) → Quiet true us → picture_count us ≡ 0
 unfolding picture_count
 count_true [] q = refl
-count_true (u ∷ us) q = rw (picture_begins u (q.0 refl)) (omega (arith, count_true us q.1))
+count_true (u ∷ us) q = rw ((plain_unit u (q.0 refl)).0) (omega (arith, count_true us q.1))
 
 count_by : (b : Bool) (u : List ℕ) (us : Units) → is_picture u ≡ b → Quiet b us → (Quiet false us → picture_count us ≤ 1) → picture_count (u ∷ us) ≤ 1
 unfolding picture_count
@@ -83,18 +71,8 @@ stretch_next (u ∷ us) are n =
     let next : AreNext 0 (map joined (i.x ∷ i.q)) = (one_of i.x i.are.0 some i.quiet.0, λ le. absurd (omega (arith, le)), later_next 1 i.q i.are.1 i.later i.quiet.1) in
     (subst (AreNext 0) (sym i.pieces) next, ap units_in i.pieces ∙ units_joined (i.x ∷ i.q) i.are ∙ sym i.whole)
 
-units_parted : (us : Units) → us ≡ to_end us ++ from_end us
-unfolding to_end from_end
-units_parted [] = refl
-units_parted (u ∷ us) = elim (cases_Bool (is_end (value_of u))) [ inl on ↦ rw on refl | inr off ↦ rw off (ap (λ (l : Units). u ∷ l) (units_parted us)) ]
-
-no_ends : (us : Units) → NoEnds (to_end us)
-unfolding to_end
-no_ends [] = tt
-no_ends (u ∷ us) = elim (cases_Bool (is_end (value_of u))) [ inl on ↦ rw on tt | inr off ↦ rw off (off, no_ends us) ]
-
 -- the pieces of the first stretch of a text, and their units
 pub text_next : (text : List ℕ) → AreNext 0 (grouped Headers [] (to_end (cut 0 text).1)) × (units_in (grouped Headers [] (to_end (cut 0 text).1)) ≡ to_end (cut 0 text).1)
 text_next text =
     let us = (cut 0 text).1 in
-    stretch_next (to_end us) (are_before (to_end us) (from_end us) (subst AreUnits (units_parted us) (cut_cuts text).are_units)) (no_ends us)
+    stretch_next (to_end us) (are_before (to_end us) (from_end us) (subst AreUnits (units_parted us) (cut_cuts text).are_units)) (ended_units us).3

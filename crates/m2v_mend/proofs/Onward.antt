@@ -19,14 +19,14 @@ use Rattle.m2v_law_group.proofs.Texts.{are_swapped, code_bytes}
 use Rattle.m2v_law_seam.specs.Spans.{units_of, units_in, stretches}
 use Rattle.m2v_law_seam.specs.Mends.{without_ends}
 use Rattle.m2v_law_seam.specs.Reading.{IsPieceOfUnits}
-use Rattle.m2v_law_seam.proofs.Told.{units_append}
+use Rattle.m2v_law_seam.proofs.Told.{units_append, none_units, units_first, units_one}
 use Rattle.m2v_mend.specs.Answers.{first_limit, limit_among, limit_from, mend_limit}
 use Rattle.m2v_mend.specs.Feeding.{bare, bare_pieces, IsBare, IsOwn, HasLastZeros, stretches_at}
 use Rattle.m2v_mend.specs.Gathering.{Tally, Gathering, begins_step, begun_with, joined_with, with_piece, with_pieces, before_stretch, stretch_ended, finished, nothing_told, behind_stretches}
 use Rattle.m2v_mend.specs.Making.{IsNextPiece}
 use Rattle.m2v_mend.specs.Members.{IsOneOfUnits}
 use Rattle.m2v_mend.specs.Stretching.{units_with, Lie, AreNext, OnWay}
-use Rattle.m2v_mend.proofs.Bare.{text_bared, bare_first}
+use Rattle.m2v_mend.proofs.Bare.{text_bared, bare_first, no_pieces}
 use Rattle.m2v_mend.proofs.Gathering.{piece_begins, piece_joins}
 use Rattle.m2v_mend.proofs.Lying.{text_lies}
 use Rattle.m2v_mend.proofs.Nexts.{text_next}
@@ -40,10 +40,6 @@ record HasMore (g : Gathering) (p : List ℕ) (h : Gathering) : Type 0 where
   end : h.place + length (joined h.pieces) ≡ (g.place + length (joined g.pieces)) + length p
   units : h.before ++ units_in h.pieces ≡ (g.before ++ units_in g.pieces) ++ units_of p
   some : 1 ≤ length h.pieces
-
-units_one : (p : List ℕ) → units_in (p ∷ []) ≡ units_of p
-unfolding units_in
-units_one p = append-nil (units_of p)
 
 more_begun : (g : Gathering) (p : List ℕ) → HasMore g p (begun_with g p)
 more_begun g p = record {
@@ -82,14 +78,6 @@ with_first g p ps = refl
 pub with_none : (g : Gathering) → with_pieces g [] ≡ g
 unfolding with_pieces
 with_none g = refl
-
-units_first : (p : List ℕ) (ps : List (List ℕ)) → units_in (p ∷ ps) ≡ units_of p ++ units_in ps
-unfolding units_in
-units_first p ps = refl
-
-units_none : units_in [] ≡ []
-unfolding units_in
-units_none = refl
 
 -- the way by the bytes of the next piece as it is handed out
 way_by : (text : List ℕ) (g : Gathering) (start : ℕ) (w : List ℕ) (ws : List (List ℕ)) (follows b : List ℕ) → bare w ≡ b → limit start 0 w ≡ None → OnWay text g start (w ∷ ws) follows → OnWay text (with_pieces g (piece_of b)) (start + length w) ws follows
@@ -221,7 +209,7 @@ way_begun text t before c rest begun still made units total fuel enough limits =
     let next = text_next now in
     let own : units_with g (left_of c rest) ≡ before ++ to_end us =
     ap (λ (l : List (List ℕ)). (before ++ units_in []) ++ units_in l) pieces
-    ∙ ap₂ (λ (x y : Units). x ++ y) (ap (λ (l : Units). before ++ l) units_none ∙ append-nil before) next.1 in
+    ∙ ap₂ (λ (x y : Units). x ++ y) (ap (λ (l : Units). before ++ l) none_units ∙ append-nil before) next.1 in
     let end = c.place + length (joined (left_of c rest)) in
     let bytes = ap length (left_whole c rest begun) in
     let sum : end + length (following_in true now) ≡ c.place + length now = omega (arith, bytes, length-append (joined (left_of c rest)) (follows_of c rest), ap length follows) in
@@ -247,10 +235,6 @@ way_begun text t before c rest begun still made units total fuel enough limits =
 
 -- ---- a stretch ends
 
-no_more : bare_pieces [] ≡ []
-unfolding bare_pieces
-no_more = refl
-
 -- what is made behind it, and the units of the input so far
 pub record IsOverAt (text : List ℕ) (g : Gathering) (place : ℕ) (follows : List ℕ) : Type 0 where
   pub within : g.place + length (joined g.pieces) ≤ place
@@ -263,8 +247,8 @@ pub record IsOverAt (text : List ℕ) (g : Gathering) (place : ℕ) (follows : L
 pub way_over : (text : List ℕ) (g : Gathering) (place : ℕ) (follows : List ℕ) → OnWay text g place [] follows → place + length follows ≡ length text → IsOverAt text g place follows
 way_over text g place follows way total =
     let end : way.end ≡ place = omega (arith, way.sum, total) in
-    let own : units_with g [] ≡ g.before ++ units_in g.pieces = ap (λ (l : List (List ℕ)). (g.before ++ units_in g.pieces) ++ units_in l) no_more ∙ ap (λ (l : Units). (g.before ++ units_in g.pieces) ++ l) units_none ∙ append-nil (g.before ++ units_in g.pieces) in
-    let same : with_pieces g (bare_pieces []) ≡ g = ap (with_pieces g) no_more ∙ with_none g in
+    let own : units_with g [] ≡ g.before ++ units_in g.pieces = ap (λ (l : List (List ℕ)). (g.before ++ units_in g.pieces) ++ units_in l) no_pieces ∙ ap (λ (l : Units). (g.before ++ units_in g.pieces) ++ l) none_units ∙ append-nil (g.before ++ units_in g.pieces) in
+    let same : with_pieces g (bare_pieces []) ≡ g = ap (with_pieces g) no_pieces ∙ with_none g in
     record {
       within = way.lie;
       made = way.made ∙ ap (λ (x : Gathering). behind_stretches (stretch_ended (finished x)) (stretches_at way.end (units_with g []) follows)) same

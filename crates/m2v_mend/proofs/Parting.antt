@@ -1,16 +1,28 @@
 -- How the pieces of a span are parted.
-use Rattle.std.proofs.Common.{◌≡◌, ℕ, zero, suc, ◌+◌, ◌-◌, ◌<◌, ◌≤◌, true, false, List, [], ◌∷◌, ◌++◌, length, take, drop, get_or, refl, sym, ap, subst, ◌∙◌, append_assoc, append-nil, arith, drop-cons}
+use Rattle.std.proofs.Common.{◌≡◌, ℕ, zero, suc, ◌+◌, ◌-◌, ◌<◌, ◌≤◌, true, false, List, [], ◌∷◌, ◌++◌, length, take, drop, get_or, refl, sym, ap, subst, ◌∙◌, append_assoc, append-nil, arith}
 use Rattle.std.specs.Prelude.{All}
-use Rattle.std.proofs.lemmas.List.{length-drop, take_more, get_or-drop, drop_all}
+use Rattle.std.proofs.lemmas.List.{length-drop, take_more, get_or-drop, drop_all, drop_more, take-append-drop}
 use Rattle.std.proofs.lemmas.List.Elements.{All-get_or}
 use Rattle.m2v_decode.specs.m2v_dec_piece.declared.answer.Piece.{Piece}
 use Rattle.m2v_decode.specs.Decoding.{whole_of}
 use Rattle.m2v_law_seam.specs.Spans.{is_b_piece}
 use Rattle.m2v_law_seam.specs.Seams.{b_first, behind_b}
+use Rattle.m2v_law_seam.specs.Faults.{ends_from}
 use Rattle.m2v_mend.specs.declared.member.Member.{Member}
 use Rattle.m2v_mend.specs.Members.{IsMember, pieces_of}
-use Rattle.m2v_mend.specs.Strand.{wholes_of, ends_of}
+use Rattle.m2v_mend.specs.Strand.{wholes_of, ends_of, AreInTurn}
 use Rattle.m2v_mend.specs.Opening.{bodies, IsBehindFrame}
+
+-- ---- an element that is next
+
+pub next_taken : {A : Type 0} (xs : List A) (i : ℕ) (x : A) → i < length xs → x ≡ get_or xs i x → take (i + 1) xs ≡ take i xs ++ x ∷ []
+next_taken {A} xs i x lt is = take_more xs i x lt ∙ ap (λ (y : A). take i xs ++ y ∷ []) (sym is)
+
+pub next_left : {A : Type 0} (xs : List A) (i : ℕ) (x : A) → i < length xs → x ≡ get_or xs i x → drop i xs ≡ x ∷ drop (i + 1) xs
+next_left {A} xs i x lt is = drop_more xs i x lt ∙ ap (λ (y : A). y ∷ drop (i + 1) xs) (sym is)
+
+pub next_parts : {A : Type 0} (xs : List A) (i : ℕ) (x : A) → i < length xs → x ≡ get_or xs i x → xs ≡ take i xs ++ x ∷ drop (i + 1) xs
+next_parts {A} xs i x lt is = sym (take-append-drop i xs) ∙ ap (λ (l : List A). take i xs ++ l) (next_left xs i x lt is)
 
 -- ---- the bytes of pieces, and where they end, one by one
 
@@ -58,6 +70,13 @@ pub wholes_append : (ps qs : List Piece) → wholes_of (ps ++ qs) ≡ wholes_of 
 wholes_append [] qs = refl
 wholes_append (p ∷ ps) qs = ap (λ (l : List (List ℕ)). whole_of p ∷ l) (wholes_append ps qs)
 
+pub ends_in_turn : (ps : List Piece) (at : ℕ) → AreInTurn at ps → ends_of ps ≡ ends_from at (wholes_of ps)
+unfolding ends_from
+ends_in_turn [] at turn = refl
+ends_in_turn (p ∷ ps) at turn =
+    let n = length (whole_of p) in
+    ap (λ (i : ℕ). (i + n) ∷ ends_of ps) turn.0 ∙ ap (λ (l : List ℕ). (at + n) ∷ l) (ends_in_turn ps (at + n) turn.1)
+
 pub ends_more : (ps qs : List Piece) → ends_of (ps ++ qs) ≡ ends_of ps ++ ends_of qs
 ends_more [] qs = refl
 ends_more (p ∷ ps) qs = ap (λ (l : List ℕ). (p.place + length (whole_of p)) ∷ l) (ends_more ps qs)
@@ -86,8 +105,7 @@ first_none = (refl, refl)
 at_piece : (ms : List Member) (at : ℕ) (m : Member) → at < length ms → m ≡ get_or ms at m → drop at (bodies ms) ≡ whole_of m.piece ∷ drop (at + 1) (bodies ms)
 at_piece ms at m lt e =
     let body : get_or (bodies ms) at (whole_of m.piece) ≡ whole_of m.piece = bodies_get ms at m (whole_of m.piece) lt ∙ ap (λ (x : Member). whole_of x.piece) (sym e) in
-    let next : suc at ≡ at + 1 = omega arith in
-    drop-cons (bodies ms) at (whole_of m.piece) (omega (arith, lt, bodies_length ms)) ∙ ap (λ (l : List ℕ). l ∷ drop (suc at) (bodies ms)) body ∙ ap (λ (k : ℕ). whole_of m.piece ∷ drop k (bodies ms)) next
+    next_left (bodies ms) at (whole_of m.piece) (omega (arith, lt, bodies_length ms)) (sym body)
 
 pub behind_more : (ms : List Member) (n at : ℕ) (m : Member) → at < length ms → m ≡ get_or ms at m → is_b_piece (whole_of m.piece) ≡ true → BehindTo ms n at → BehindTo ms n (at + 1)
 behind_more ms n at m lt e b h =

@@ -1,7 +1,7 @@
 -- A span that is put behind the strand that is under way, or isn't.
 use Rattle.std.proofs.Common.{◌≡◌, ℕ, ◌*◌, Bool, true, false, List, [], ◌∷◌, ◌++◌, length, Option, Some, None, Result, refl, sym, ap, subst, ◌∙◌, arith}
-use Rattle.std.specs.Prelude.{not}
 use Rattle.std.proofs.lemmas.List.{nil_from_length}
+use Rattle.std.proofs.lemmas.Bool.{not-true, not-false}
 use Rattle.m2v_model.specs.declared.fault.FaultKind.TheVariants.{Unsupported}
 use Rattle.m2v_model.specs.declared.state.Sequence.{Sequence}
 use Rattle.m2v_model.specs.Units.{joined}
@@ -12,6 +12,7 @@ use Rattle.m2v_law_seam.specs.Seams.{low_behind, text_behind, has_own_head}
 use Rattle.m2v_law_seam.specs.Strands.{read_of, first_in, is_short, is_strand}
 use Rattle.m2v_law_seam.specs.Faults.{fault_alone, fault_of}
 use Rattle.m2v_law_seam.specs.Mending.{Gap, Mending, strands_of, frames_shown, first_kept, groups_behind, low_of_span, goes_behind, put_behind, begins_strand, strand_begun, left_out, with_span}
+use Rattle.m2v_law_seam.proofs.Same.{span_behind}
 use Rattle.m2v_mend.specs.declared.begin.Begun.{Begun}
 use Rattle.m2v_mend.specs.declared.mender.Behind.{Behind}
 use Rattle.m2v_mend.specs.declared.mender.Behind.TheVariants as behinds
@@ -22,22 +23,14 @@ use Rattle.m2v_mend.specs.Putting.{CanBePut, IsUnderWay, PutTold, BeginTold}
 use Rattle.m2v_mend.specs.Making.{fault_told, IsMade, IsUnder, CanBeNext}
 use Rattle.m2v_mend.specs.Mender.{over, IsFirstGroup, WentOn, IsWhyNot, IsWithout, PutOrNot, BehindTold, IsLong, IsNotLong}
 use Rattle.m2v_mend.specs.Strand.{StrandState, wholes_of, IsAt}
-use Rattle.m2v_mend.proofs.Made.{no_text, goes_by, goes_long, fault_first_none, fault_put, fault_long, some_there, strand_made, put_is, under_bytes, over_made, goes_on, begins_on, left_on}
+use Rattle.m2v_mend.proofs.Made.{no_text, goes_by, goes_long, fault_first_none, fault_put, fault_long, some_there, strand_made, put_is, under_bytes, over_made, begins_on, left_on}
 
 -- a span in memory that isn't long is within the limits
 pub short_is : (s : Span) (x : SpanParts) → IsSpan s x → x.long ≡ false → is_short s ≡ true
-short_is s x is off = flip (is_short s) (sym is.long ∙ off)
-  where
-    flip : (b : Bool) → not b ≡ false → b ≡ true
-    flip true e = refl
-    flip false e = absurd cc
+short_is s x is off = not-false (is_short s) (sym is.long ∙ off)
 
 pub long_is : (s : Span) (x : SpanParts) → IsSpan s x → x.long ≡ true → is_short s ≡ false
-long_is s x is on = flip (is_short s) (sym is.long ∙ on)
-  where
-    flip : (b : Bool) → not b ≡ true → b ≡ false
-    flip true e = absurd cc
-    flip false e = refl
+long_is s x is on = not-true (is_short s) (sym is.long ∙ on)
 
 -- no strand has a byte, and the span has no header
 pub not_under : (m : Mending) (s : Span) (z : StrandState) → IsUnder m (Some z) → IsOfStretch s → is_short s ≡ true → z.bytes ≡ 0 → has_own_head s.pieces ≡ false
@@ -129,4 +122,4 @@ pub left_is : (written : List ℕ) (listed : List Gap) (m : Mending) (s : Span) 
 left_is written listed m s new off none is = subst (λ (w : Mending). IsMade written listed w new) (sym (left_on m s off none)) is
 
 pub put_is_all : (written : List ℕ) (listed : List Gap) (m : Mending) (s : Span) (new : Mender) → goes_behind m s ≡ true → IsMade written listed (put_behind m s) new → IsMade written listed (with_span m s) new
-put_is_all written listed m s new on is = subst (λ (w : Mending). IsMade written listed w new) (sym (goes_on m s on)) is
+put_is_all written listed m s new on is = subst (λ (w : Mending). IsMade written listed w new) (sym (span_behind m s on)) is

@@ -1,5 +1,5 @@
 -- A span is put behind a strand, or its fault is told.
-use Rattle.std.proofs.Common.{◌≡◌, inl, inr, ℕ, zero, suc, ◌+◌, ◌-◌, ◌*◌, ◌<◌, Bool, true, false, cond, List, [], ◌∷◌, ◌++◌, length, Option, Some, None, Result, Ok, Err, refl, sym, ap, subst, ◌∙◌, append_assoc, arith}
+use Rattle.std.proofs.Common.{◌≡◌, inl, inr, ℕ, zero, suc, ◌+◌, ◌-◌, ◌*◌, ◌<◌, Bool, true, false, cond, List, [], ◌∷◌, ◌++◌, length, Option, Some, None, Result, Ok, Err, refl, sym, ap, subst, ◌∙◌, arith}
 use Rattle.std.specs.Prelude.{All, max, not, ◌&&◌, ◌||◌, nat_eq}
 use Rattle.std.proofs.lemmas.Bool.{both_ways, cases_Bool, eqb-true}
 use Rattle.std.proofs.lemmas.List.{length-append}
@@ -24,7 +24,7 @@ use Rattle.m2v_law_seam.specs.Strands as strands
 use Rattle.m2v_law_seam.specs.Faults.{read_at, fault_behind}
 use Rattle.m2v_decode.specs.m2v_dec_piece.declared.answer.Piece.{Piece}
 use Rattle.m2v_decode.specs.m2v_dec_piece.declared.answer.Fault.{Fault}
-use Rattle.m2v_decode.specs.Decoding.{between, whole_of}
+use Rattle.m2v_decode.specs.Decoding.{between}
 use Rattle.m2v_decode.specs.m2v_dec_piece.Sound.{IsSoundPiece}
 use Rattle.m2v_mend.specs.declared.refusal.Refusal.{Refusal}
 use Rattle.m2v_mend.specs.declared.refusal.Refusal.TheVariants as refusals
@@ -38,6 +38,7 @@ use Rattle.m2v_mend.proofs.Showing.{read_is}
 use Rattle.m2v_mend.proofs.Closing.{all_bytes}
 use Rattle.m2v_mend.proofs.CopyLaws.{members_sound}
 use Rattle.m2v_mend.proofs.Copied.{has_byte, GoBehind, copied_behind}
+use Rattle.m2v_mend.proofs.Written.{wholes_append}
 
 -- ---- the first header stays as more is read
 
@@ -113,10 +114,6 @@ course_agrees (b ∷ bytes) s opening first qs at under anchors stands c =
     both_ways (agrees first (c.behind).state.first) c.joint_is on
 
 -- ---- what is told
-
-wholes_append : (ps qs : List Piece) → joined (wholes_of (ps ++ qs)) ≡ joined (wholes_of ps) ++ joined (wholes_of qs)
-wholes_append [] qs = refl
-wholes_append (p ∷ ps) qs = ap (λ (l : List ℕ). whole_of p ++ l) (wholes_append ps qs) ∙ sym (append_assoc (whole_of p) (joined (wholes_of ps)) (joined (wholes_of qs)))
 
 pub kept_told : (s z : StrandState) (first : Option Sequence) (bytes : List ℕ) (low : ℕ) (sp : Span) (old new qs : List Piece) (at : IsAt s bytes) → GoBehind bytes low sp qs → Told at.decoder s first bytes qs None z → z.opening ≡ s.opening → new ≡ old ++ qs
     → PutTold s.opening first bytes low sp old new None z

@@ -9,7 +9,7 @@ use Rattle.m2v_model.specs.Pictures.{Events, pictures_in}
 use Rattle.m2v_model.specs.Decoding.{low_delay_of, shown}
 use Rattle.m2v_model.specs.ByPieces.{Between, at_start, units_read}
 use Rattle.m2v_law_seam.specs.Spans.{units_of}
-use Rattle.m2v_law_seam.specs.Strands.{pictures_of, first_in, frames_in}
+use Rattle.m2v_law_seam.specs.Strands.{first_in, frames_in}
 use Rattle.m2v_law_seam.specs.Strands as strands
 use Rattle.m2v_law_seam.specs.Reading.{ended_read, CanGrow, HasRead}
 use Rattle.m2v_law_seam.proofs.ByUnits.{read_alone}

@@ -5,6 +5,7 @@ use Rattle.std.specs.Option.{option_map}
 use Rattle.std.proofs.lemmas.Bool.{lt-leb, leb-false}
 use Rattle.std.proofs.lemmas.List.{length-append, map-append}
 use Rattle.std.proofs.lemmas.List.Elements.{All-nil, All-cons, All-push}
+use Rattle.std.proofs.Math.Bool.{and-false, and-true, and_assoc, not-not}
 use Rattle.m2v_model.specs.Units.{Units, joined}
 use Rattle.m2v_model.specs.Pieces.{limit, trimmed}
 use Rattle.m2v_model.proofs.CutLaws.{joined-append}
@@ -16,12 +17,13 @@ use Rattle.m2v_law_seam.specs.Spans.{units_of, units_in, picture_count, is_entry
 use Rattle.m2v_law_seam.specs.Seams.{has_own_head, bytes_or_none}
 use Rattle.m2v_law_seam.specs.Strands.{all_fit, most_span, is_short}
 use Rattle.m2v_law_seam.specs.Faults.{begins_entry}
-use Rattle.m2v_law_seam.proofs.Told.{units_append, count_append}
+use Rattle.m2v_law_seam.proofs.Told.{pictures_append, units_one}
 use Rattle.m2v_mend.specs.declared.member.Member.{Member}
 use Rattle.m2v_mend.specs.declared.parts.SpanParts.{SpanParts}
 use Rattle.m2v_mend.specs.Strand.{wholes_of, AreInTurn}
 use Rattle.m2v_mend.specs.Kept.{bytes_of_members, head_kept, kept_of}
 use Rattle.m2v_mend.specs.Members.{IsMember, pieces_of, HasZeros, IsSpan}
+use Rattle.m2v_mend.proofs.Parting.{bodies_append}
 
 -- ---- heads
 
@@ -59,11 +61,7 @@ joined_more ps w =
     ap length (joined-append ps (w ∷ [])) ∙ length-append (joined ps) (w ++ []) ∙ ap (λ (l : List ℕ). length (joined ps) + length l) (append-nil w)
 
 count_more : (ps : List (List ℕ)) (w : List ℕ) → picture_count (units_in (ps ++ w ∷ [])) ≡ picture_count (units_in ps) + picture_count (units_of w)
-unfolding units_in
-count_more ps w =
-    ap picture_count (units_append ps (w ∷ []))
-    ∙ count_append (units_in ps) (units_in (w ∷ []))
-    ∙ ap (λ (l : Units). picture_count (units_in ps) + picture_count l) (append-nil (units_of w))
+count_more ps w = pictures_append ps (w ∷ []) ∙ ap (λ (l : Units). picture_count (units_in ps) + picture_count l) (units_one w)
 
 pub kept_more : (head : Option (List ℕ)) (ps : List (List ℕ)) (w : List ℕ) → 1 ≤ length ps → kept_of head (ps ++ w ∷ []) ≡ kept_of head ps + length (trimmed w)
 kept_more head ps w le =
@@ -100,18 +98,17 @@ kept_one head m own of_head of_piece kept e h p k =
 
 -- ---- limits
 
-fit_more : (ps : List (List ℕ)) (w : List ℕ) → all_fit (ps ++ w ∷ []) ≡ (all_fit ps && is_none (limit 0 0 w))
+pub fit_append : (ps qs : List (List ℕ)) → all_fit (ps ++ qs) ≡ (all_fit ps && all_fit qs)
 unfolding all_fit
-fit_more [] w = and_true (is_none (limit 0 0 w))
-  where
-    and_true : (b : Bool) → (b && true) ≡ b
-    and_true true = refl
-    and_true false = refl
-fit_more (p ∷ ps) w = ap (λ (b : Bool). is_none (limit 0 0 p) && b) (fit_more ps w) ∙ sym (and_and (is_none (limit 0 0 p)) (all_fit ps) (is_none (limit 0 0 w)))
-  where
-    and_and : (a b c : Bool) → ((a && b) && c) ≡ (a && (b && c))
-    and_and true b c = refl
-    and_and false b c = refl
+fit_append [] qs = refl
+fit_append (p ∷ ps) qs = ap (λ (b : Bool). is_none (limit 0 0 p) && b) (fit_append ps qs) ∙ sym (and_assoc (is_none (limit 0 0 p)) (all_fit ps) (all_fit qs))
+
+pub fit_one : (p : List ℕ) → all_fit (p ∷ []) ≡ is_none (limit 0 0 p)
+unfolding all_fit
+fit_one p = and-true (is_none (limit 0 0 p))
+
+fit_more : (ps : List (List ℕ)) (w : List ℕ) → all_fit (ps ++ w ∷ []) ≡ (all_fit ps && is_none (limit 0 0 w))
+fit_more ps w = fit_append ps (w ∷ []) ∙ ap (λ (b : Bool). all_fit ps && b) (fit_one w)
 
 -- a span is short by what is kept of it
 short_is : (s : Span) (kept : ℕ) → kept ≡ kept_of s.head s.pieces → is_short s ≡ (all_fit s.pieces && nat_le kept most_span)
@@ -137,11 +134,7 @@ short_less : (ps : List (List ℕ)) (w : List ℕ) (kept more : ℕ) (b : Bool) 
 short_less ps w kept more true e le off =
     let past : nat_le kept most_span ≡ false = sym (ap (λ (b : Bool). b && nat_le kept most_span) e) ∙ off in
     let over : nat_le more most_span ≡ false = lt-leb more most_span (omega (arith, le, leb-false kept most_span past)) in
-    ap (λ (b : Bool). all_fit (ps ++ w ∷ []) && b) over ∙ and_off (all_fit (ps ++ w ∷ []))
-  where
-    and_off : (b : Bool) → (b && false) ≡ false
-    and_off true = refl
-    and_off false = refl
+    ap (λ (b : Bool). all_fit (ps ++ w ∷ []) && b) over ∙ and-false (all_fit (ps ++ w ∷ []))
 short_less ps w kept more false e le off =
     ap (λ (b : Bool). b && nat_le more most_span) (fit_more ps w ∙ ap (λ (b : Bool). b && is_none (limit 0 0 w)) e)
 
@@ -157,19 +150,11 @@ short_on s w kept e on =
     let fit : all_fit s.pieces ≡ true = (and_parts (all_fit s.pieces) _ on).0 in
     short_is (with_piece s w) kept e ∙ ap (λ (b : Bool). b && nat_le kept most_span) (fit_more s.pieces w ∙ ap (λ (b : Bool). b && is_none (limit 0 0 w)) fit)
 
-not_not : (b : Bool) → not (not b) ≡ b
-not_not true = refl
-not_not false = refl
-
 not_and : (a b : Bool) → (not a || not b) ≡ not (a && b)
 not_and true b = refl
 not_and false b = refl
 
 -- ---- pieces in turn
-
-pieces_more : (ms : List Member) (m : Member) → wholes_of (pieces_of (ms ++ m ∷ [])) ≡ wholes_of (pieces_of ms) ++ whole_of m.piece ∷ []
-pieces_more [] m = refl
-pieces_more (n ∷ ms) m = ap (λ (l : List (List ℕ)). whole_of n.piece ∷ l) (pieces_more ms m)
 
 turn_more : (at : ℕ) (ms : List Member) (m : Member) → AreInTurn at (pieces_of ms) → m.piece.place ≡ at + length (joined (wholes_of (pieces_of ms))) → AreInTurn at (pieces_of (ms ++ m ∷ []))
 turn_more at [] m are e = (e ∙ none, tt)
@@ -234,10 +219,10 @@ module _ (s : Span) (old new : SpanParts) (m : Member) (kept : ℕ) (long : Bool
 
   long_by : (b : Bool) → old.long ≡ b → long ≡ not (is_short (with_piece s w))
   long_by true e =
-      let off : is_short s ≡ false = sym (not_not (is_short s)) ∙ ap not (sym span.long ∙ e) in
+      let off : is_short s ≡ false = sym (not-not (is_short s)) ∙ ap not (sym span.long ∙ e) in
       p.long_is ∙ ap (λ (b : Bool). b || (not (is_none (limit 0 0 w)) || not (nat_le kept most_span))) e ∙ sym (ap not (long_stays s w some off))
   long_by false e =
-      let on : is_short s ≡ true = sym (not_not (is_short s)) ∙ ap not (sym span.long ∙ e) in
+      let on : is_short s ≡ true = sym (not-not (is_short s)) ∙ ap not (sym span.long ∙ e) in
       let same : kept ≡ kept_of s.head (s.pieces ++ w ∷ []) = p.kept_is ∙ ap (λ (n : ℕ). n + length (trimmed w)) (kept_before e) ∙ sym (kept_more s.head s.pieces w some) in
       p.long_is
       ∙ ap (λ (b : Bool). b || (not (is_none (limit 0 0 w)) || not (nat_le kept most_span))) e
@@ -257,7 +242,7 @@ module _ (s : Span) (old new : SpanParts) (m : Member) (kept : ℕ) (long : Bool
         long = p.longs ∙ long_by old.long refl;
         pieces = λ e.
             let off = was_short (short e) in
-            ap (λ (l : List Member). wholes_of (pieces_of l)) (p.members (short e)) ∙ pieces_more old.members.items m ∙ ap (λ (l : List (List ℕ)). l ++ w ∷ []) (span.pieces off);
+            ap (λ (l : List Member). wholes_of (pieces_of l)) (p.members (short e)) ∙ bodies_append old.members.items m ∙ ap (λ (l : List (List ℕ)). l ++ w ∷ []) (span.pieces off);
         turn = λ e.
             let off = was_short (short e) in
             subst (λ (l : List Member). AreInTurn s.place (pieces_of l)) (sym (p.members (short e))) (turn_more s.place old.members.items m (span.turn off) (behind off));

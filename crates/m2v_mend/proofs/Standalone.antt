@@ -1,5 +1,5 @@
 -- The pieces with which a strand begins can be read from nothing on.
-use Rattle.std.proofs.Common.{◌≡◌, ℕ, zero, suc, ◌≤◌, Bool, true, false, List, [], ◌∷◌, ◌++◌, map, take, drop, Option, Some, None, inl, inr, refl, sym, ap, subst, ◌∙◌, append_assoc, append-nil, arith}
+use Rattle.std.proofs.Common.{◌≡◌, ℕ, ◌≤◌, Bool, true, false, List, [], ◌∷◌, ◌++◌, map, take, drop, Option, Some, None, inl, inr, refl, sym, ap, subst, ◌∙◌, append_assoc, append-nil, arith}
 use Rattle.std.specs.Prelude.{nat_eq, ◌||◌, is_some, if◌then◌else◌}
 use Rattle.std.proofs.lemmas.Bool.{cases_Bool, eqb-true}
 use Rattle.std.proofs.lemmas.List.{map-append, take-append-drop}
@@ -8,51 +8,30 @@ use Rattle.m2v_model.specs.Streams.{value_of}
 use Rattle.m2v_model.specs.Pieces.{is_end, begins_piece}
 use Rattle.m2v_model.proofs.CutLaws.{cut_units, joined-append, are_before, are_behind}
 use Rattle.m2v_law_group.specs.Groups.{is_sequence, has_sequence, from_sequence}
-use Rattle.m2v_law_group.proofs.Lists.{or_parts}
 use Rattle.m2v_law_seam.specs.Spans.{units_of, units_in, picture_count, field_of, Span}
-use Rattle.m2v_law_seam.specs.Seams.{lowered, lowered_unit, marked_unit, frame_pieces, b_first, behind_b, without_leading_pieces, first_reference, first_opened, later_opened, pieces_opened, opened_pieces, bytes_or_none, has_own_head}
+use Rattle.m2v_law_seam.specs.Seams.{lowered, lowered_unit, marked_unit, b_first, behind_b, without_leading_pieces, first_reference, first_opened, later_opened, pieces_opened, opened_pieces, bytes_or_none, has_own_head}
 use Rattle.m2v_law_seam.specs.Strands.{has_end}
 use Rattle.m2v_law_seam.specs.Faults.{has_head}
 use Rattle.m2v_law_seam.specs.Reading.{BeginsOnePiece, BeginsSequence, IsPieceOfUnits, ArePieces, CanGoBehind}
 use Rattle.m2v_law_seam.proofs.Edited.{KeepsUnits, mapped_units, mapped_count, lowered_keeps, marked_keeps, place_units, without_middle}
 use Rattle.m2v_law_seam.proofs.Told.{b_parts, units_append, count_append}
+use Rattle.m2v_law_seam.proofs.ByUnits.{end_append, end_before}
+use Rattle.m2v_law_seam.proofs.Pictures.{mapped_front, from_suffix, first_field, behind_first}
 use Rattle.m2v_mend.specs.Members.{AreLater, AreSpanPieces, IsHeadBefore, HeadStands, IsOfStretch}
 use Rattle.m2v_mend.proofs.EditLaws.{are_units}
 
 -- ---- some of the units are changed
 
--- the first ones
-front_mapped : (f : List ℕ → List ℕ) → KeepsUnits f → (us vs : Units) → AreUnits (us ++ vs) → AreUnits (map f us ++ vs)
-front_mapped f k [] vs are = are
-front_mapped f k (u ∷ []) vs are = k.unit u vs are
-front_mapped f k (u ∷ v ∷ us) vs are =
-    k.unit u (map f (v ∷ us) ++ vs) (place_units (u ∷ []) v (us ++ vs) (f v) (map f us ++ vs) are (front_mapped f k (v ∷ us) vs are.3))
-
 -- those in the middle
 middle_mapped : (f : List ℕ → List ℕ) → KeepsUnits f → (us vs ws : Units) → AreUnits (us ++ (vs ++ ws)) → AreUnits (us ++ (map f vs ++ ws))
 middle_mapped f k us [] ws are = are
-middle_mapped f k us (v ∷ vs) ws are = place_units us v (vs ++ ws) (f v) (map f vs ++ ws) are (front_mapped f k (v ∷ vs) ws (are_behind us ((v ∷ vs) ++ ws) are))
+middle_mapped f k us (v ∷ vs) ws are = place_units us v (vs ++ ws) (f v) (map f vs ++ ws) are (mapped_front f k (v ∷ vs) ws (are_behind us ((v ∷ vs) ++ ws) are))
 
 -- the last ones
 last_mapped : (f : List ℕ → List ℕ) → KeepsUnits f → (us vs : Units) → AreUnits (us ++ vs) → AreUnits (us ++ map f vs)
 last_mapped f k us vs are = subst (λ (l : Units). AreUnits (us ++ l)) (append-nil (map f vs)) (middle_mapped f k us vs [] (subst (λ (l : Units). AreUnits (us ++ l)) (sym (append-nil vs)) are))
 
 -- ---- no sequence end code
-
-end_append : (us vs : Units) → has_end (us ++ vs) ≡ (has_end us || has_end vs)
-unfolding has_end
-end_append [] vs = refl
-end_append (u ∷ us) vs = ap (λ (b : Bool). is_end (value_of u) || b) (end_append us vs) ∙ or_or (is_end (value_of u)) (has_end us) (has_end vs)
-  where
-    or_or : (a b c : Bool) → (a || (b || c)) ≡ ((a || b) || c)
-    or_or true b c = refl
-    or_or false b c = refl
-
-end_parts : (us vs : Units) → has_end (us ++ vs) ≡ false → (has_end us ≡ false) × (has_end vs ≡ false)
-end_parts us vs e = or_parts (has_end us) (has_end vs) (sym (end_append us vs) ∙ e)
-
-end_both : (us vs : Units) → has_end us ≡ false → has_end vs ≡ false → has_end (us ++ vs) ≡ false
-end_both us vs a b = end_append us vs ∙ ap (λ (x : Bool). x || has_end vs) a ∙ b
 
 end_mapped : (f : List ℕ → List ℕ) → KeepsUnits f → (us : Units) → AreUnits us → has_end (map f us) ≡ has_end us
 unfolding has_end
@@ -61,39 +40,27 @@ end_mapped f k (u ∷ us) are = ap (λ (n : ℕ). is_end n || has_end (map f us)
 
 -- ---- from the first sequence header on
 
-record Suffix (us : Units) : Type 0 where
-  front : Units
-  is : us ≡ front ++ from_sequence us
-
-suffix : (us : Units) → Suffix us
-unfolding from_sequence
-suffix [] = record { front = []; is = refl }
-suffix (u ∷ us) = elim (cases_Bool (is_sequence u)) [
-  | inl on ↦ record { front = []; is = rw on refl }
-  | inr off ↦ let i = suffix us in record { front = u ∷ i.front; is = rw off (ap (λ (l : Units). u ∷ l) i.is) }
-]
-
-from_begins : (us : Units) → has_sequence us ≡ true → BeginsSequence (from_sequence us)
+pub from_begins : (us : Units) → has_sequence us ≡ true → BeginsSequence (from_sequence us)
 unfolding has_sequence from_sequence
 from_begins [] h = absurd cc
 from_begins (u ∷ us) h = elim (cases_Bool (is_sequence u)) [ inl on ↦ rw on on | inr off ↦ rw off (from_begins us (rw off at h)) ]
 
 -- ---- what can be said of the units of pieces
 
-sequence_one : (us : Units) → BeginsSequence us → BeginsOnePiece us
+pub sequence_one : (us : Units) → BeginsSequence us → BeginsOnePiece us
 unfolding begins_piece
 sequence_one [] h = absurd h
 sequence_one (u ∷ us) h = let value = eqb-true (value_of u) 0xB3 h in subst (λ (n : ℕ). begins_piece n ≡ true) (sym value) refl
 
-begins_mapped : (f : List ℕ → List ℕ) → KeepsUnits f → (us : Units) → AreUnits us → BeginsOnePiece us → BeginsOnePiece (map f us)
+pub begins_mapped : (f : List ℕ → List ℕ) → KeepsUnits f → (us : Units) → AreUnits us → BeginsOnePiece us → BeginsOnePiece (map f us)
 begins_mapped f k [] are h = absurd h
 begins_mapped f k (u ∷ us) are h = subst (λ (n : ℕ). begins_piece n ≡ true) (sym (k.value u are.0)) h
 
-sequence_mapped : (f : List ℕ → List ℕ) → KeepsUnits f → (us : Units) → AreUnits us → BeginsSequence us → BeginsSequence (map f us)
+pub sequence_mapped : (f : List ℕ → List ℕ) → KeepsUnits f → (us : Units) → AreUnits us → BeginsSequence us → BeginsSequence (map f us)
 sequence_mapped f k [] are h = absurd h
 sequence_mapped f k (u ∷ us) are h = subst (λ (n : ℕ). nat_eq n 0xB3 ≡ true) (sym (k.value u are.0)) h
 
-sequence_front : (us vs : Units) → BeginsSequence us → BeginsSequence (us ++ vs)
+pub sequence_front : (us vs : Units) → BeginsSequence us → BeginsSequence (us ++ vs)
 sequence_front [] vs h = absurd h
 sequence_front (u ∷ us) vs h = h
 
@@ -131,7 +98,7 @@ pieces_append : (ps qs : List (List ℕ)) → ArePieces ps → ArePieces qs → 
 pieces_append [] qs a b = b
 pieces_append (p ∷ ps) qs a b = (a.0, pieces_append ps qs a.1 b)
 
-pieces_parts : (ps qs : List (List ℕ)) → ArePieces (ps ++ qs) → ArePieces ps × ArePieces qs
+pub pieces_parts : (ps qs : List (List ℕ)) → ArePieces (ps ++ qs) → ArePieces ps × ArePieces qs
 pieces_parts [] qs a = (tt, a)
 pieces_parts (p ∷ ps) qs a = let i = pieces_parts ps qs a.1 in ((a.0, i.0), i.1)
 
@@ -165,8 +132,8 @@ opens low hs us vs h =
     let ls_are = mapped_units (lowered_unit low) k us us_are in
     let a1 : AreUnits (hs ++ (ls ++ ws)) = subst (λ (l : Units). AreUnits (hs ++ l)) (map-append (lowered_unit low) us vs) (last_mapped (lowered_unit low) k hs (us ++ vs) h.are) in
     let a2 : AreUnits (hs ++ (ms ++ ws)) = middle_mapped marked_unit marked_keeps hs ls ws a1 in
-    let e = end_parts hs (us ++ vs) h.no_end in
-    let f = end_parts us vs e.1 in
+    let e = end_before hs (us ++ vs) h.no_end in
+    let f = end_before us vs e.1 in
     let ends_ms : has_end ms ≡ false = end_mapped marked_unit marked_keeps ls ls_are ∙ end_mapped (lowered_unit low) k us us_are ∙ f.0 in
     let ends_ws : has_end ws ≡ false = end_mapped (lowered_unit low) k vs vs_are ∙ f.1 in
     let count : picture_count ms ≡ picture_count us = mapped_count marked_unit marked_keeps ls ls_are ∙ mapped_count (lowered_unit low) k us us_are in
@@ -175,7 +142,7 @@ opens low hs us vs h =
       first = are_before (hs ++ ms) ws (subst AreUnits (sym (append_assoc hs ms ws)) a2);
       begins = begins_by hs us_are ls_are h.begins;
       one = omega (arith, h.one, count, count_append hs us, count_append hs ms);
-      no_end = end_both hs (ms ++ ws) e.0 (end_both ms ws ends_ms ends_ws);
+      no_end = end_append hs (ms ++ ws) e.0 (end_append ms ws ends_ms ends_ws);
     }
   where
     begins_by : (hs : Units) → AreUnits us → AreUnits (lowered low us) → BeginsSequence (hs ++ us) → BeginsSequence (hs ++ map marked_unit (lowered low us))
@@ -217,28 +184,17 @@ record KeptBehind (ps : List (List ℕ)) (kept : List (List ℕ)) : Type 0 where
   all : ps ≡ front ++ (middle ++ last)
   are : kept ≡ front ++ last
 
-abbrev frame_count : Bool → ℕ
-frame_count b = if b then 1 else 2
-
-one_or_two : (b : Bool) → frame_count b ≡ 0 → ⊥
-one_or_two true e = absurd (omega (arith, e))
-one_or_two false e = absurd (omega (arith, e))
-
 kept_behind : (p : List ℕ) (ps : List (List ℕ)) → (kept : List (List ℕ)) × (without_leading_pieces (p ∷ ps) ≡ p ∷ kept) × KeptBehind ps kept
-kept_behind p ps = by_frame (frame_pieces (p ∷ ps)) refl
-  where
-    cut_at : (k : ℕ) → KeptBehind ps (take k ps ++ behind_b (drop k ps))
-    cut_at k = record {
+kept_behind p ps =
+    let f = first_field p ps (nat_eq (field_of p) 0) refl in
+    let k = f.0 in
+    (behind_first k ps, f.1, record {
       front = take k ps;
       middle = b_first (drop k ps);
       last = behind_b (drop k ps);
       all = sym (take-append-drop k ps) ∙ ap (λ (l : List (List ℕ)). take k ps ++ l) (sym (b_parts (drop k ps)));
       are = refl;
-    }
-
-    by_frame : (n : ℕ) → frame_pieces (p ∷ ps) ≡ n → (kept : List (List ℕ)) × (without_leading_pieces (p ∷ ps) ≡ p ∷ kept) × KeptBehind ps kept
-    by_frame zero e = absurd (one_or_two (nat_eq (field_of p) 0) e)
-    by_frame (suc k) e = (take k ps ++ behind_b (drop k ps), ap (λ (m : ℕ). take m (p ∷ ps) ++ behind_b (drop m (p ∷ ps))) e, cut_at k)
+    })
 
 -- without those that are left out
 can_without : (hs us : Units) (ps kept : List (List ℕ)) → KeptBehind ps kept → CanOpen hs us (units_in ps) → CanOpen hs us (units_in kept)
@@ -252,12 +208,12 @@ can_without hs us ps kept x h =
     ap (λ (l : Units). hs ++ l) (sym (append_assoc us a zs)) ∙ sym (append_assoc hs (us ++ a) zs) in
     let are : AreUnits ((hs ++ (us ++ a)) ++ (b ++ c)) = subst AreUnits (ap (λ (l : Units). hs ++ (us ++ l)) all ∙ group (b ++ c)) h.are in
     let same : hs ++ (us ++ units_in kept) ≡ (hs ++ (us ++ a)) ++ c = ap (λ (l : Units). hs ++ (us ++ l)) own ∙ group c in
-    let e = end_parts (hs ++ (us ++ a)) (b ++ c) (ap has_end (sym (ap (λ (l : Units). hs ++ (us ++ l)) all ∙ group (b ++ c))) ∙ h.no_end) in
+    let e = end_before (hs ++ (us ++ a)) (b ++ c) (ap has_end (sym (ap (λ (l : Units). hs ++ (us ++ l)) all ∙ group (b ++ c))) ∙ h.no_end) in
     record {
       are = subst AreUnits (sym same) (without_middle (hs ++ (us ++ a)) b c are);
       begins = h.begins;
       one = h.one;
-      no_end = ap has_end same ∙ end_both (hs ++ (us ++ a)) c e.0 (end_parts b c e.1).1;
+      no_end = ap has_end same ∙ end_append (hs ++ (us ++ a)) c e.0 (end_before b c e.1).1;
     }
 
 kept_are : (ps kept : List (List ℕ)) → KeptBehind ps kept → ArePieces ps → ArePieces kept
@@ -271,14 +227,14 @@ own_open : (p : List ℕ) (ps : List (List ℕ)) → has_sequence (units_of p) �
 unfolding units_in
 own_open p ps on h =
     let us = units_of p in
-    let x = suffix us in
-    let whole : us ++ units_in ps ≡ x.front ++ (from_sequence us ++ units_in ps) = ap (λ (l : Units). l ++ units_in ps) x.is ∙ append_assoc x.front (from_sequence us) (units_in ps) in
-    let count = ap picture_count x.is ∙ count_append x.front (from_sequence us) in
+    let x = from_suffix us in
+    let whole : us ++ units_in ps ≡ x.0 ++ (from_sequence us ++ units_in ps) = ap (λ (l : Units). l ++ units_in ps) x.1 ∙ append_assoc x.0 (from_sequence us) (units_in ps) in
+    let count = ap picture_count x.1 ∙ count_append x.0 (from_sequence us) in
     record {
-      are = are_behind x.front (from_sequence us ++ units_in ps) (subst AreUnits whole h.2);
+      are = are_behind x.0 (from_sequence us ++ units_in ps) (subst AreUnits whole h.2);
       begins = from_begins us on;
       one = omega (arith, count, h.0.one);
-      no_end = (end_parts x.front (from_sequence us ++ units_in ps) (ap has_end (sym whole) ∙ h.3)).1;
+      no_end = (end_before x.0 (from_sequence us ++ units_in ps) (ap has_end (sym whole) ∙ h.3)).1;
     }
 
 -- behind a head
@@ -288,7 +244,7 @@ head_open p ps head h b = record {
   are = b.are;
   begins = sequence_front (units_of head) (units_of p) b.begins;
   one = omega (arith, count_append (units_of head) (units_of p), b.none, h.0.one);
-  no_end = end_both (units_of head) (units_in (p ∷ ps)) b.no_end h.3;
+  no_end = end_append (units_of head) (units_in (p ∷ ps)) b.no_end h.3;
 }
 
 first_is : (low : ℕ) (head : Option (List ℕ)) (p : List ℕ) (b : Bool) → has_sequence (units_of p) ≡ b

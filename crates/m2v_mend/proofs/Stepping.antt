@@ -1,6 +1,5 @@
 -- One piece more of those that are read behind a strand.
-use Rattle.std.proofs.Common.{◌≡◌, ℕ, suc, ◌+◌, ◌<◌, List, [], ◌∷◌, ◌++◌, length, take, drop, get_or, Err, refl, sym, ap, subst, ◌∙◌, arith, drop-cons}
-use Rattle.std.proofs.lemmas.List.{take_more, take-append-drop}
+use Rattle.std.proofs.Common.{◌≡◌, ℕ, ◌+◌, ◌<◌, List, [], ◌∷◌, ◌++◌, length, take, drop, get_or, Err, refl, sym, ap, subst, ◌∙◌, arith}
 use Rattle.m2v_model.specs.declared.notes.Notes.{Notes}
 use Rattle.m2v_model.specs.ByPieces.{piece_read}
 use Rattle.m2v_decode.specs.m2v_dec_piece.declared.answer.Piece.{Piece}
@@ -11,6 +10,7 @@ use Rattle.m2v_decode.specs.Decoding as decoding
 use Rattle.m2v_decode.specs.Reading.{Reading, Follows, LeadsOn}
 use Rattle.m2v_decode.proofs.EndLaws.{whole_length}
 use Rattle.m2v_mend.specs.Strand.{StrandState, standing_with, IsReady, Steps, Walks, stop, step, Walked, Halts, bytes_in}
+use Rattle.m2v_mend.proofs.Parting.{next_taken, next_left, next_parts}
 
 -- a decoder that has come as far as a reader, with no frame at hand
 leader : Reading → Decoding
@@ -52,11 +52,7 @@ walked_on d s z y ps p w x = record { behind = x.behind; walks = walks_more w.wa
 
 pub walked_more : (d : Decoding) (s z y : StrandState) (ps : List Piece) (i : ℕ) (p : Piece) → i < length ps → p ≡ get_or ps i p → (w : Walked d s (take i ps) z) → ((e : Decoding) → Follows z.reading e → Steps e z p y) → Walked d s (take (i + 1) ps) y
 walked_more d s z y ps i p lt is w x =
-    let next : take (i + 1) ps ≡ take i ps ++ p ∷ [] = take_more ps i p lt ∙ ap (λ (q : Piece). take i ps ++ q ∷ []) (sym is) in
-    subst (λ (l : List Piece). Walked d s l y) (sym next) (walked_on d s z y (take i ps) p w (x w.behind w.follows))
-
-rest_more : (ps : List Piece) (i : ℕ) (p : Piece) → i < length ps → drop i ps ≡ get_or ps i p ∷ drop (i + 1) ps
-rest_more ps i p lt = let next : suc i ≡ i + 1 = omega arith in drop-cons ps i p lt ∙ ap (λ (n : ℕ). get_or ps i p ∷ drop n ps) next
+    subst (λ (l : List Piece). Walked d s l y) (sym (next_taken ps i p lt is)) (walked_on d s z y (take i ps) p w (x w.behind w.follows))
 
 pub halts_at : (d : Decoding) (s z : StrandState) (ps : List Piece) (i : ℕ) (p : Piece) (f : Fault) → i < length ps → p ≡ get_or ps i p → (w : Walked d s (take i ps) z)
     → ((e : Decoding) → Follows z.reading e → piece_read (between e) (p.place + length (whole_of p)) (whole_of p) ≡ Err (f.kind, f.place)) → Halts d s ps f
@@ -64,7 +60,7 @@ halts_at d s z ps i p f lt is w x = record {
   front = take i ps;
   piece = p;
   later = drop (i + 1) ps;
-  are = sym (take-append-drop i ps) ∙ ap (λ (l : List Piece). take i ps ++ l) (rest_more ps i p lt ∙ ap (λ (q : Piece). q ∷ drop (i + 1) ps) (sym is));
+  are = next_parts ps i p lt is;
   at = w.behind;
   state = z;
   walks = w.walks;
@@ -73,4 +69,4 @@ halts_at d s z ps i p f lt is w x = record {
 
 -- how many bytes are left
 pub bytes_left : (ps : List Piece) (i : ℕ) (p : Piece) → i < length ps → p ≡ get_or ps i p → bytes_in (drop i ps) ≡ p.length + bytes_in (drop (i + 1) ps)
-bytes_left ps i p lt is = ap bytes_in (rest_more ps i p lt) ∙ ap (λ (q : Piece). q.length + bytes_in (drop (i + 1) ps)) (sym is)
+bytes_left ps i p lt is = ap bytes_in (next_left ps i p lt is)

@@ -5,7 +5,7 @@ use Rattle.std.proofs.lemmas.List.{length-append, length-drop}
 use Rattle.m2v_model.specs.Units.{Units, begins_code, cut, joined, Clear, AreUnits, Cuts}
 use Rattle.m2v_model.specs.Streams.{value_of}
 use Rattle.m2v_model.specs.Pieces.{is_end, grouped}
-use Rattle.m2v_model.proofs.CutLaws.{cut_cuts, cuts_is}
+use Rattle.m2v_model.proofs.CutLaws.{cut_cuts, cuts_is, joined-append, are_behind}
 use Rattle.m2v_decode.specs.m2v_dec_piece.Following.{following, following_in}
 use Rattle.m2v_law_seam.specs.Spans.{Stretch, stretches_from, stretch_pieces, placed}
 use Rattle.m2v_law_seam.specs.Mending.{Mending, ended_by, strand_ended}
@@ -34,23 +34,16 @@ parted (u ∷ us) place before mine =
       | inr off ↦ rw (off, sym (append_assoc mine (u ∷ []) (to_end us))) (parted us place before (mine ++ u ∷ []))
     ]
 
-pub parted_bytes : (us : Units) → joined us ≡ joined (to_end us) ++ joined (from_end us)
+pub units_parted : (us : Units) → us ≡ to_end us ++ from_end us
 unfolding to_end from_end
-parted_bytes [] = refl
-parted_bytes (u ∷ us) =
-    elim (cases_Bool (is_end (value_of u))) [
-      | inl on ↦ rw on refl
-      | inr off ↦ rw off (ap (λ (l : List ℕ). u ++ l) (parted_bytes us) ∙ sym (append_assoc u (joined (to_end us)) (joined (from_end us))))
-    ]
+units_parted [] = refl
+units_parted (u ∷ us) = elim (cases_Bool (is_end (value_of u))) [ inl on ↦ rw on refl | inr off ↦ rw off (ap (λ (l : Units). u ∷ l) (units_parted us)) ]
+
+pub parted_bytes : (us : Units) → joined us ≡ joined (to_end us) ++ joined (from_end us)
+parted_bytes us = ap joined (units_parted us) ∙ joined-append (to_end us) (from_end us)
 
 from_are : (us : Units) → AreUnits us → AreUnits (from_end us)
-unfolding from_end
-from_are [] are = tt
-from_are (u ∷ us) are =
-    elim (cases_Bool (is_end (value_of u))) [
-      | inl on ↦ rw on are
-      | inr off ↦ rw off (from_are us are.3)
-    ]
+from_are us are = are_behind (to_end us) (from_end us) (subst AreUnits (units_parted us) are)
 
 -- the bytes behind the four of an end code
 behind_code : Units → List ℕ

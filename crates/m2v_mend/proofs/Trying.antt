@@ -2,7 +2,7 @@
 use Rattle.std.proofs.Common.{◌≡◌, ℕ, zero, suc, ◌+◌, ◌-◌, ◌*◌, ◌<◌, ◌≤◌, Bool, true, false, List, [], ◌∷◌, ◌++◌, length, take, drop, get_or, Option, Some, None, Result, Ok, Err, refl, sym, ap, subst, ◌∙◌, arith}
 use Rattle.std.specs.Prelude.{max, not, ◌&&◌, if◌then◌else◌, is_none}
 use Rattle.std.specs.Global.{Vec}
-use Rattle.std.proofs.lemmas.List.{take_more}
+use Rattle.std.proofs.Math.Bool.{and-false}
 use Rattle.m2v_model.specs.declared.fault.FaultKind.TheVariants.{Truncated, Unsupported, MissingReference}
 use Rattle.m2v_model.specs.declared.state.Sequence.{Sequence}
 use Rattle.m2v_model.specs.Units.{Units, joined, cut}
@@ -23,51 +23,30 @@ use Rattle.m2v_mend.specs.declared.parts.SpanParts.{SpanParts}
 use Rattle.m2v_mend.specs.declared.refusal.Refusal.{Refusal}
 use Rattle.m2v_mend.specs.declared.refusal.Refusal.TheVariants as refusals
 use Rattle.m2v_mend.specs.Members.{pieces_of, IsSpan, IsOfStretch}
-use Rattle.m2v_mend.specs.Strand.{StrandState, wholes_of, ends_of, bytes_in, IsAt, Told, AreInTurn, course_of, Refused}
+use Rattle.m2v_mend.specs.Strand.{StrandState, wholes_of, ends_of, bytes_in, IsAt, Told, course_of, Refused}
 use Rattle.m2v_mend.specs.Opening.{bodies, ends_opened, items_of, OpenedTold}
 use Rattle.m2v_mend.specs.Alone.{fault_as, course_at_start, IsRefusal, ReadTold, FaultOf, StrandTold}
-use Rattle.m2v_mend.proofs.Parting.{wholes_append, ends_at}
+use Rattle.m2v_mend.proofs.Parting.{wholes_append, ends_at, next_taken, ends_in_turn}
 use Rattle.m2v_mend.proofs.Standalone.{can_open}
-
-and_off : (b : Bool) → (b && false) ≡ false
-and_off true = refl
-and_off false = refl
+use Rattle.m2v_mend.proofs.SpanLaws.{fit_append, fit_one}
 
 -- ---- pieces one by one
 
 pub bytes_more : (ps : List Piece) (i : ℕ) (p : Piece) (n m : ℕ) → i < length ps → p ≡ get_or ps i p → n ≡ bytes_in (take i ps) → m ≡ n + p.length → m ≡ bytes_in (take (i + 1) ps)
 bytes_more ps i p n m lt is before e =
-    let next : take (i + 1) ps ≡ take i ps ++ p ∷ [] = take_more ps i p lt ∙ ap (λ (q : Piece). take i ps ++ q ∷ []) (sym is) in
-    let sum = ap bytes_in next ∙ append_bytes (take i ps) p in
+    let sum = ap bytes_in (next_taken ps i p lt is) ∙ append_bytes (take i ps) p in
     omega (arith, before, e, sum)
   where
     append_bytes : (qs : List Piece) (q : Piece) → bytes_in (qs ++ q ∷ []) ≡ bytes_in qs + q.length
     append_bytes [] q = omega arith
     append_bytes (x ∷ qs) q = let i = append_bytes qs q in omega (arith, i)
 
-fit_append : (ps qs : List (List ℕ)) → all_fit (ps ++ qs) ≡ (all_fit ps && all_fit qs)
-unfolding all_fit
-fit_append [] qs = refl
-fit_append (p ∷ ps) qs = ap (λ (b : Bool). is_none (limit 0 0 p) && b) (fit_append ps qs) ∙ and_and (is_none (limit 0 0 p)) (all_fit ps) (all_fit qs)
-  where
-    and_and : (a b c : Bool) → (a && (b && c)) ≡ ((a && b) && c)
-    and_and true b c = refl
-    and_and false b c = refl
-
-fit_one : (p : List ℕ) → all_fit (p ∷ []) ≡ is_none (limit 0 0 p)
-unfolding all_fit
-fit_one p = and_on (is_none (limit 0 0 p))
-  where
-    and_on : (b : Bool) → (b && true) ≡ b
-    and_on true = refl
-    and_on false = refl
-
 pub fit_none : all_fit [] ≡ true
 unfolding all_fit
 fit_none = refl
 
 next_wholes : (ps : List Piece) (i : ℕ) (p : Piece) → i < length ps → p ≡ get_or ps i p → wholes_of (take (i + 1) ps) ≡ wholes_of (take i ps) ++ whole_of p ∷ []
-next_wholes ps i p lt is = ap wholes_of (take_more ps i p lt ∙ ap (λ (q : Piece). take i ps ++ q ∷ []) (sym is)) ∙ wholes_append (take i ps) (p ∷ [])
+next_wholes ps i p lt is = ap wholes_of (next_taken ps i p lt is) ∙ wholes_append (take i ps) (p ∷ [])
 
 pub fit_more : (ps : List Piece) (i : ℕ) (p : Piece) → i < length ps → p ≡ get_or ps i p → all_fit (wholes_of (take i ps)) ≡ true → is_none (limit 0 0 (whole_of p)) ≡ true → all_fit (wholes_of (take (i + 1) ps)) ≡ true
 fit_more ps i p lt is before own =
@@ -81,7 +60,7 @@ fit_stops [] i p lt is own = absurd (omega (arith, lt))
 fit_stops (q ∷ ps) zero p lt is own = sym (unfit q ps (ap (λ (x : Piece). is_none (limit 0 0 (whole_of x))) (sym is) ∙ own))
 fit_stops (q ∷ ps) (suc i) p lt is own =
     sym (
-    fit_append (whole_of q ∷ []) (wholes_of ps) ∙ ap (λ (b : Bool). all_fit (whole_of q ∷ []) && b) (sym (fit_stops ps i p (omega (arith, lt)) is own)) ∙ and_off (all_fit (whole_of q ∷ []))
+    fit_append (whole_of q ∷ []) (wholes_of ps) ∙ ap (λ (b : Bool). all_fit (whole_of q ∷ []) && b) (sym (fit_stops ps i p (omega (arith, lt)) is own)) ∙ and-false (all_fit (whole_of q ∷ []))
     )
 
 -- ---- what is read from nothing on
@@ -109,13 +88,6 @@ read_refused s z first ps x other at told = (ap (λ (b : Bool). is_strand b firs
 
 -- ---- of a span
 
-pub ends_turn : (at : ℕ) (ps : List Piece) → AreInTurn at ps → ends_of ps ≡ ends_from at (wholes_of ps)
-unfolding ends_from
-ends_turn at [] h = refl
-ends_turn at (p ∷ ps) h =
-    let e : p.place + length (whole_of p) ≡ at + length (whole_of p) = ap (λ (n : ℕ). n + length (whole_of p)) h.0 in
-    ap (λ (n : ℕ). n ∷ ends_of ps) e ∙ ap (λ (l : List ℕ). (at + length (whole_of p)) ∷ l) (ends_turn (at + length (whole_of p)) ps h.1)
-
 module _ (s : Span) (x : SpanParts) (is : IsSpan s x) (short : x.long ≡ false) where
   pub span_bodies : bodies x.members.items ≡ s.pieces
   span_bodies = is.pieces short
@@ -128,7 +100,7 @@ module _ (s : Span) (x : SpanParts) (is : IsSpan s x) (short : x.long ≡ false)
 
   pub ends_same : ends_opened x.members.items ≡ ends_kept s
   ends_same =
-      let e : ends_at x.members.items ≡ ends_from s.place s.pieces = ends_turn s.place (pieces_of x.members.items) (is.turn short) ∙ ap (ends_from s.place) span_bodies in
+      let e : ends_at x.members.items ≡ ends_from s.place s.pieces = ends_in_turn (pieces_of x.members.items) s.place (is.turn short) ∙ ap (ends_from s.place) span_bodies in
       ap (λ (l : List ℕ). take (frame_pieces (bodies x.members.items)) l ++ drop (frame_pieces (bodies x.members.items) + length (leading (bodies x.members.items))) l) e
       ∙ ap (λ (ps : List (List ℕ)). take (frame_pieces ps) (ends_from s.place s.pieces) ++ drop (frame_pieces ps + length (leading ps)) (ends_from s.place s.pieces)) span_bodies
 
@@ -179,7 +151,7 @@ module _ (s : Span) (x : SpanParts) (is : IsSpan s x) (short : x.long ≡ false)
   pub refused_told : (first : Option Sequence) (old ps : List Piece) (r : Refusal) (f : Fault) → 1 ≤ length (wholes_of ps) → all_fit (opened_pieces s) ≡ true → wholes_of ps ≡ opened_pieces s → ends_of ps ≡ ends_kept s → ReadTold first ps (Err r) → FaultOf x.place x.bytes r f
       → StrandTold first s old old (Err f)
   refused_told first old ps r f some fit whole ends h e = (
-    ap (λ (b : Bool). all_fit (opened_pieces s) && b) (ap (λ (l : List (List ℕ)). is_strand false first (joined l)) (sym whole) ∙ h.0) ∙ and_off (all_fit (opened_pieces s)),
+    ap (λ (b : Bool). all_fit (opened_pieces s) && b) (ap (λ (l : List (List ℕ)). is_strand false first (joined l)) (sym whole) ∙ h.0) ∙ and-false (all_fit (opened_pieces s)),
     fault_is ps r f some whole ends h.1 e ∙ ap (λ (b : Bool). if not b then (Unsupported, 8 * s.place) else fault_opened s) (sym fit),
     refl,
   )

@@ -90,10 +90,6 @@ unmarked : (u : List ℕ) (x y : Bool) → is_group u ≡ x → nat_le 8 (length
 unfolding marked_unit
 unmarked u x y ex ey off = rw (ex, ey, off) refl
 
-on_off : (x : Bool) → (x && false) ≡ false
-on_off true = refl
-on_off false = refl
-
 value_at : (u : List ℕ) (z : ℕ) (b : Bool) → 4 ≤ length u → nat_eq (get_or u 3 0) 0xB8 ≡ b → is_group (text_of u z) ≡ b
 value_at u z b le e = ap (λ (n : ℕ). nat_eq n 0xB8) (within_get u z 3 (omega (arith, le))) ∙ e
 

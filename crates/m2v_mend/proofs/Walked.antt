@@ -9,6 +9,7 @@ use Rattle.m2v_model.specs.ByPieces.{Between, Course, at_start, behind, continue
 use Rattle.m2v_model.proofs.EventLaws.{pictures_in-append}
 use Rattle.m2v_model.proofs.ShiftLaws.{NoEnds}
 use Rattle.m2v_model.proofs.SplitLaws.{behind_none, behind_twice}
+use Rattle.m2v_model.proofs.PieceLaws.{no_ends-append}
 use Rattle.m2v_law_group.specs.Groups.{is_sequence}
 use Rattle.m2v_law_group.proofs.Lists.{no_ends_parts}
 use Rattle.m2v_law_seam.specs.Spans.{units_of, units_in}
@@ -16,30 +17,22 @@ use Rattle.m2v_law_seam.specs.Strands.{last_open, has_end, begins_sequence, is_s
 use Rattle.m2v_law_seam.specs.Faults.{read_at}
 use Rattle.m2v_law_seam.specs.Reading.{is_strand_read, BeginsOnePiece, BeginsSequence, ArePieces, CanGrow, CanGoBehind}
 use Rattle.m2v_law_seam.proofs.Strand.{none_ends}
-use Rattle.m2v_law_seam.proofs.Reading.{both_go}
 use Rattle.m2v_law_seam.proofs.ByUnits.{strand_is, grown}
-use Rattle.m2v_law_seam.proofs.Placing.{piece_fault, front_sequence, never_none, whole_bytes, some_units, grow_none, none_grown, begins_later, fault_units}
+use Rattle.m2v_law_seam.proofs.Told.{units_append}
+use Rattle.m2v_law_seam.proofs.Placing.{piece_fault, front_sequence, never_none, whole_bytes, some_units, grow_none, none_grown, begins_later, fault_units, first_is}
 use Rattle.m2v_decode.specs.m2v_dec_piece.declared.answer.Piece.{Piece}
 use Rattle.m2v_decode.specs.m2v_dec_piece.declared.answer.Fault.{Fault}
 use Rattle.m2v_decode.specs.Decoding.{Decoding, between, whole_of}
 use Rattle.m2v_mend.specs.Strand.{StrandState, Steps, Walks, stop, step, Halts, wholes_of, ends_of, bytes_in, HasCome}
 use Rattle.m2v_mend.proofs.Walking.{step_reads}
 use Rattle.m2v_mend.proofs.Ruling.{rule_of, rule_none, step_rule}
+use Rattle.m2v_mend.proofs.Standalone.{sequence_front, pieces_parts}
+use Rattle.m2v_mend.proofs.Parting.{wholes_append}
 
 -- ---- units of pieces
 
-units_more : (p : Piece) (ps : List Piece) → units_in (wholes_of (p ∷ ps)) ≡ units_of (whole_of p) ++ units_in (wholes_of ps)
-unfolding units_in
-units_more p ps = refl
-
-units_none : units_in (wholes_of []) ≡ []
-unfolding units_in
-units_none = refl
-
 pub units_between : (ps qs : List Piece) → units_in (wholes_of (ps ++ qs)) ≡ units_in (wholes_of ps) ++ units_in (wholes_of qs)
-unfolding units_in
-units_between [] qs = refl
-units_between (p ∷ ps) qs = ap (λ (l : Units). units_of (whole_of p) ++ l) (units_between ps qs) ∙ sym (append_assoc (units_of (whole_of p)) (units_in (wholes_of ps)) (units_in (wholes_of qs)))
+units_between ps qs = ap units_in (wholes_append ps qs) ∙ units_append (wholes_of ps) (wholes_of qs)
 
 -- ---- where pieces end
 
@@ -103,7 +96,7 @@ walk_reads {d} {e} {s} {z} (step {z = m} {p = p} {ps = ps} x w) us es r are none
     let one = step_reads us es d s m p r x are.0 none parts.0 (λ empty. front_sequence vs (units_in (wholes_of ps)) (are.0).begins (first empty (omega arith))) in
     walk_more us es d e s m z p ps x
     (step_rule us es d s m p r x are.0 parts.0 (λ empty. front_sequence vs (units_in (wholes_of ps)) (are.0).begins (first empty (omega arith))))
-    (walk_reads w (us ++ vs) (es ++ (x.advanced).events) one are.1 (both_go us vs none parts.0) parts.1 (λ empty some. absurd (never_none us vs (are.0).begins empty)))
+    (walk_reads w (us ++ vs) (es ++ (x.advanced).events) one are.1 (no_ends-append us vs none parts.0) parts.1 (λ empty some. absurd (never_none us vs (are.0).begins empty)))
 
 -- ---- where a strand is asked for
 
@@ -118,13 +111,10 @@ pub record Asked (bytes : List ℕ) (ps : List Piece) : Type 0 where
   pub no_end : has_end (units_of (bytes ++ joined (wholes_of ps))) ≡ false
   pub last : last_open (units_of (bytes ++ joined (wholes_of ps))) ≡ last_open (units_in (wholes_of ps))
 
-grown_first : (v : List ℕ) (vs : Units) (ws : Units) → ws ≡ v ∷ vs → BeginsSequence ws → is_sequence v ≡ true
-grown_first v vs ws e b = subst BeginsSequence e b
-
 asked_by : (bytes : List ℕ) (ps : List Piece) (v : List ℕ) (vs : Units) → CanGrow bytes → CanGoBehind bytes (wholes_of ps) → units_in (wholes_of ps) ≡ v ∷ vs → Asked bytes ps
 asked_by bytes ps v vs can c e =
     let ws = units_in (wholes_of ps) in
-    let first : bytes ≡ [] → is_sequence v ≡ true = λ empty. grown_first v vs ws e (c.first empty) in
+    let first : bytes ≡ [] → is_sequence v ≡ true = λ empty. first_is v vs ws e (c.first empty) in
     let g = grown bytes v vs can (subst AreUnits e c.are) (ap has_end (sym e) ∙ c.no_end) first in
     let same : bytes ++ joined (wholes_of ps) ≡ bytes ++ joined (v ∷ vs) = ap (λ (l : List ℕ). bytes ++ l) (whole_bytes (wholes_of ps) c.pieces ∙ ap joined e) in
     record {
@@ -150,15 +140,7 @@ strand_by opening first bytes ps r a e =
     ∙ ap (λ (b : Bool). not b && is_strand_read opening first (units_read at_start (units_of all))) a.last
     ∙ ap (λ (c : Course). not (last_open (units_in (wholes_of ps))) && is_strand_read opening first c) (ap (units_read at_start) a.units ∙ e)
 
-and_off : (b : Bool) → (b && false) ≡ false
-and_off true = refl
-and_off false = refl
-
 -- ---- a fault
-
-pub parts_of : (ps : List Piece) (qs : List Piece) → ArePieces (wholes_of (ps ++ qs)) → ArePieces (wholes_of ps) × ArePieces (wholes_of qs)
-parts_of [] qs a = (tt, a)
-parts_of (p ∷ ps) qs a = let x = parts_of ps qs a.1 in ((a.0, x.0), x.1)
 
 -- what is read of all pieces where one of them has a fault
 pub record HasHalted (bytes : List ℕ) (d : Decoding) (ps : List Piece) (f : Fault) : Type 0 where
@@ -177,14 +159,14 @@ halted_by bytes es d s front p later at z f come a w refused =
     let us = units_of bytes in
     let ws = units_of (whole_of p) in
     let vs = units_in (wholes_of later) in
-    let pieces = parts_of front (p ∷ later) a.are in
+    let pieces = pieces_parts (wholes_of front) (wholes_of (p ∷ later)) (subst ArePieces (wholes_append front (p ∷ later)) a.are) in
     let split = units_between front (p ∷ later) in
     let own = no_ends_parts (units_in (wholes_of front)) (ws ++ vs) (subst NoEnds split a.own) in
     let mine = no_ends_parts ws vs own.1 in
     let r = walk_reads w us es come pieces.0 a.goes own.0 (λ none some. front_first front (ws ++ vs) some pieces.0 (subst BeginsSequence split (a.first none (omega (arith, some, length-append front (p ∷ later)))))) in
     let h = piece_fault (between at) (p.place + length (whole_of p)) (whole_of p) f.kind f.place refused in
     let before = us ++ units_in (wholes_of front) in
-    let goes = both_go us (units_in (wholes_of front)) a.goes own.0 in
+    let goes = no_ends-append us (units_in (wholes_of front)) a.goes own.0 in
     let begins = ((pieces.1).0).begins in
     let read = fault_units before (es ++ r.events) (between at) ws vs (f.kind, h.left) (r.come).has goes mine.0 begins (begins_later (wholes_of later) (pieces.1).1) (λ none. here us front ws vs none begins split a.first) h.read in
     let all : us ++ units_in (wholes_of (front ++ p ∷ later)) ≡ (before ++ ws) ++ vs =
@@ -195,15 +177,11 @@ halted_by bytes es d s front p later at z f come a w refused =
       course = r.course 0 (p ∷ later) ∙ ap (behind r.events) (course_halts (between at) (last_end 0 front) p later f refused);
     }
   where
-    behind_first : (us vs : Units) → BeginsSequence us → BeginsSequence (us ++ vs)
-    behind_first [] vs h = absurd h
-    behind_first (u ∷ us) vs h = h
-
     front_first : (ps : List Piece) (ws : Units) → 1 ≤ length ps → ArePieces (wholes_of ps) → BeginsSequence (units_in (wholes_of ps) ++ ws) → BeginsSequence (units_in (wholes_of ps))
     front_first [] ws le a h = absurd (omega (arith, le))
     front_first (q ∷ qs) ws le a h =
         let first = front_sequence (units_of (whole_of q)) (units_in (wholes_of qs) ++ ws) (a.0).begins (subst BeginsSequence (append_assoc (units_of (whole_of q)) (units_in (wholes_of qs)) ws) h) in
-        behind_first (units_of (whole_of q)) (units_in (wholes_of qs)) first
+        sequence_front (units_of (whole_of q)) (units_in (wholes_of qs)) first
 
     none_first : (us vs : Units) → us ++ vs ≡ [] → (us ≡ []) × (vs ≡ [])
     none_first [] vs e = (refl, e)

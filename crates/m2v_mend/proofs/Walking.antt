@@ -1,5 +1,6 @@
 -- Pieces that are read behind a strand: what was read of its units, and how its pictures stand.
 use Rattle.std.proofs.Common.{◌≡◌, ℕ, ◌+◌, ◌*◌, ◌≤◌, Bool, true, false, List, [], ◌∷◌, ◌++◌, length, Option, Some, None, Result, Ok, Err, refl, sym, ap, subst, ◌∙◌, append_assoc, append-nil, arith}
+use Rattle.std.proofs.Math.Bool.{and-true, not-not}
 use Rattle.std.specs.Prelude.{not, is_none, ◌&&◌, ◌||◌, if◌then◌else◌}
 use Rattle.m2v_bits.proofs.SyntaxLaws.{good_is}
 use Rattle.m2v_model.specs.declared.fault.FaultKind.{FaultKind}
@@ -43,14 +44,10 @@ all_append : (ps qs : Pictures) → AllEndSo ps → AllEndSo qs → AllEndSo (ps
 all_append [] qs a b = b
 all_append (p ∷ ps) qs a b = (a.0, all_append ps qs a.1 b)
 
-not_twice : (b : Bool) → not (not b) ≡ b
-not_twice true = refl
-not_twice false = refl
-
 closed_end : (o : Option Open) (store : Store) (es : Events) → AllEndSo (pictures_in es) → AllEndSo (pictures_in (closed o store ++ es))
 unfolding picture_of
 closed_end None store es h = h
-closed_end (Some p) store es h = (ap (λ (b : Bool). is_frame p.extension || b) (sym (not_twice p.second_field)), h)
+closed_end (Some p) store es h = (ap (λ (b : Bool). is_frame p.extension || b) (sym (not-not p.second_field)), h)
 
 told_end : (st : State) (store : Store) (p : Part) (es : Events) → AllEndSo (pictures_in es) → AllEndSo (pictures_in (told_by st store p ++ es))
 told_end st store (sequence s) es h = subst (λ (l : Events). AllEndSo (pictures_in l)) (sym (append_assoc (closed st.picture store) (sequence_header s ∷ []) es)) (closed_end st.picture store (sequence_header s ∷ es) h)
@@ -112,10 +109,6 @@ broken_on None stands false place e = absurd cc
 broken_on (Some n) stands true place e = absurd cc
 broken_on (Some n) stands false place e = refl
 
-and_true : (b : Bool) → (b && true) ≡ b
-and_true true = refl
-and_true false = refl
-
 -- so the pictures stand of which these come last
 pub record StandSo (s : Standing) (ps : Pictures) : Type 0 where
   pub anchors : s.anchors ≡ anchors_after 0 ps
@@ -124,7 +117,7 @@ pub record StandSo (s : Standing) (ps : Pictures) : Type 0 where
 stand_one : (s : Standing) (ps : Pictures) (k : ℕ) (p : Picture) → StandSo s ps → EndsSo p → StandSo (standing_with s (Some (note_of k p))) (ps ++ p ∷ [])
 unfolding all_stand
 stand_one s ps k p h e =
-    let one : all_stand (anchors_after 0 ps) (p ∷ []) ≡ may_stand (anchors_after 0 ps) p = and_true (may_stand (anchors_after 0 ps) p) in
+    let one : all_stand (anchors_after 0 ps) (p ∷ []) ≡ may_stand (anchors_after 0 ps) p = and-true (may_stand (anchors_after 0 ps) p) in
     record {
       anchors = same_anchors s.anchors k p e ∙ ap (λ (n : ℕ). anchors_behind n p) h.anchors ∙ sym (anchors_append 0 ps (p ∷ []));
       stands = broken_on s.broken (may_stand s.anchors p) (all_stand 0 ps) _ h.stands

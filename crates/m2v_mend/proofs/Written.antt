@@ -1,5 +1,5 @@
 -- Bytes that are written one part after another.
-use Rattle.std.proofs.Common.{◌≡◌, ℕ, suc, ◌+◌, ◌-◌, ◌<◌, ◌≤◌, List, [], ◌∷◌, ◌++◌, length, take, drop, get_or, replicate, Option, refl, sym, ap, subst, ◌∙◌, append_assoc, append-nil, arith}
+use Rattle.std.proofs.Common.{◌≡◌, ℕ, suc, ◌+◌, ◌-◌, ◌<◌, ◌≤◌, List, [], ◌∷◌, ◌++◌, length, take, drop, get_or, replicate, Option, sym, ap, subst, ◌∙◌, append-nil, arith}
 use Rattle.std.specs.Prelude.{vec_len}
 use Rattle.std.proofs.Math.Seq.{take-suc}
 use Rattle.std.proofs.lemmas.List.{take-append-drop, take_all, take-replicate, replicate-append-replicate}
@@ -9,10 +9,12 @@ use Rattle.m2v_port.proofs.Runs.{rose_since, grows_on, prefix_on, prefix_of_more
 use Rattle.m2v_mend.specs.declared.answer.MendError.{MendError}
 use Rattle.m2v_mend.specs.declared.answer.MendError.TheVariants as errors
 use Rattle.m2v_model.specs.Units.{joined}
+use Rattle.m2v_model.proofs.CutLaws.{joined-append}
 use Rattle.m2v_decode.specs.m2v_dec_piece.declared.answer.Piece.{Piece}
 use Rattle.m2v_decode.specs.Decoding.{whole_of}
 use Rattle.m2v_mend.specs.Strand.{wholes_of}
 use Rattle.m2v_mend.specs.Stretching.{Cuts}
+use Rattle.m2v_mend.proofs.Parting.{wholes_append as each_append}
 
 -- The output's states are o0, o1 and so on.
 module _ {K : Type 0} (held : K → Option (List ℕ)) (output_faults : K → ℕ) where
@@ -54,8 +56,7 @@ of_buffer n most le = take-replicate n most 0 le
 -- ---- pieces one behind another
 
 pub wholes_append : (ps qs : List Piece) → joined (wholes_of (ps ++ qs)) ≡ joined (wholes_of ps) ++ joined (wholes_of qs)
-wholes_append [] qs = refl
-wholes_append (p ∷ ps) qs = ap (λ (l : List ℕ). whole_of p ++ l) (wholes_append ps qs) ∙ sym (append_assoc (whole_of p) (joined (wholes_of ps)) (joined (wholes_of qs)))
+wholes_append ps qs = ap joined (each_append ps qs) ∙ joined-append (wholes_of ps) (wholes_of qs)
 
 pub wholes_more : (ps : List Piece) (i : ℕ) (p : Piece) → i < length ps → p ≡ get_or ps i p → joined (wholes_of (take (i + 1) ps)) ≡ joined (wholes_of (take i ps)) ++ whole_of p
 wholes_more ps i p lt is =
