@@ -24,7 +24,7 @@ use Rattle.m2v_law_seam.specs.Strands.{is_read, pictures_of, first_in, begins_se
 use Rattle.m2v_law_seam.specs.Strands as strands
 use Rattle.m2v_law_seam.specs.Faults.{standing}
 use Rattle.m2v_law_seam.specs.Spans.{units_of}
-use Rattle.m2v_law_seam.specs.Reading.{ended_read, is_strand_read, ByUnits, BeginsSequence, BeginsOnePiece, CanGrow, HasRead, anchors_after}
+use Rattle.m2v_law_seam.specs.Reading.{ended_read, is_strand_read, ByUnits, BeginsSequence, CanGrow, HasRead, anchors_after}
 use Rattle.m2v_law_seam.proofs.Strand.{StrandUnits, strand_units, own_units}
 use Rattle.m2v_law_seam.proofs.Edited.{behind_units}
 use Rattle.m2v_law_seam.proofs.Reading.{alone_by}
@@ -140,10 +140,6 @@ grown bytes v vs (inl e) are none first = subst (λ (l : List ℕ). Grown l v vs
 grown bytes v vs (inr h) are none first = grown_some bytes (strand_units bytes h.0 h.1 h.2) v vs h.0 h.1 are none
 
 -- ---- what is read behind what was read
-
-pub begins_of : (us : Units) → BeginsOnePiece us → BeginsPiece us
-begins_of [] h = absurd h
-begins_of (u ∷ us) h = h
 
 -- units behind those that were read
 pub read_on : (us : Units) (es : Events) (b : Between) (vs : Units) → HasRead us es b → NoEnds us → BeginsPiece vs → units_read at_start (us ++ vs) ≡ behind es (units_read b vs)

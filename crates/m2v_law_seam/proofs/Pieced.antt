@@ -149,14 +149,6 @@ picture_next : (bytes : List ℕ) (u : List ℕ) (us : Units) → is_end (value_
 unfolding grouped
 picture_next bytes u us off begins = rw (off, begins) refl
 
-phase_picture : (u : List ℕ) → is_picture u ≡ true → phase_after Headers (value_of u) ≡ Picture
-unfolding phase_after
-phase_picture u e = rw e refl
-
-phase_headers : (u : List ℕ) → is_picture u ≡ false → phase_after Headers (value_of u) ≡ Headers
-unfolding phase_after
-phase_headers u e = rw e refl
-
 shown_by : (b : Bool) → (if b then Picture else Headers) ≡ Picture → b ≡ true
 shown_by true e = refl
 shown_by false e = absurd cc

@@ -74,9 +74,6 @@ at_rest (u ∷ us) es b h =
 
 -- ---- the end of the text
 
-ended_by : (w : Option FirstField) (b : Between) (end : ℕ) → b.state.waiting ≡ w → text_ended end (Ok ([], b)) ≡ cond (none_waits w) (Ok ([], b)) (Err (FieldPair, 8 * end))
-ended_by w b end e = ap (λ (o : Option FirstField). cond (none_waits o) (Ok ([], b)) (Err (FieldPair, 8 * end))) e
-
 pub end_is : (b : Between) (end : ℕ) → IsKnown b.state → b.state.picture ≡ None → end_read b end ≡ cond (none_waits b.state.waiting) (Ok ([], b)) (Err (FieldPair, 8 * end))
 end_is b end known shut =
     let same = rested_same b shut in

@@ -67,10 +67,6 @@ same_open anchors (Some q) waiting p ps k h = (h.0, k (counted anchors (Some q))
 told_more : (anchors : ℕ) (o : Option Open) (store : Store) (e es : Events) → Told anchors ((closed o store ++ e) ++ es) → Told anchors (closed o store ++ (e ++ es))
 told_more anchors o store e es h = subst (Told anchors) (append_assoc (closed o store) e es) h
 
--- behind the states of a part
-abbrev Ahead : State → List Part → Type 0
-Ahead st ps = (n : ℕ) → AllStand n st.waiting ps
-
 stand_step : (st : State) (store : Store) (p : Part) (ps : List Part) (es : Events) (anchors : ℕ) → ((n : ℕ) → Told n es → OpenStands n (after st p).picture (after st p).waiting ps) → Told anchors (told_by st store p ++ es) → OpenStands anchors st.picture st.waiting (p ∷ ps)
 unfolding after
 stand_step st store (sequence s) ps es anchors ih h = closes_stand anchors st.picture store (sequence_header s ∷ es) st.waiting (sequence s ∷ ps) (told_more anchors st.picture store (sequence_header s ∷ []) es h) (λ n t. ih n t)

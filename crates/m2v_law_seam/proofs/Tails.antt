@@ -6,9 +6,6 @@ use Rattle.std.proofs.lemmas.List.{length-append}
 use Rattle.std.proofs.Math.Bool.{or-false, and-false}
 use Rattle.m2v_law_seam.specs.Strands.{is_prefix, ends_open}
 
-long_prefix : (a b c d : ℕ) (w : List ℕ) → is_prefix (a ∷ b ∷ c ∷ d ∷ w) ≡ false
-long_prefix a b c d w = refl
-
 pub open_tail : (w : List ℕ) → ends_open w ≡ is_prefix (drop (length w - 3) w)
 unfolding ends_open
 open_tail [] = refl

@@ -1,7 +1,6 @@
 -- How copies of pieces are made, one after another.
-use Rattle.std.proofs.Common.{◌≡◌, ℕ, ◌+◌, ◌<◌, ◌≤◌, Bool, true, false, List, [], ◌∷◌, ◌++◌, length, drop, get_or, refl, sym, ap, subst, ◌∙◌, append_assoc, append-nil, arith}
-use Rattle.std.specs.Prelude.{All, not, ◌||◌}
-use Rattle.std.proofs.lemmas.Bool.{both_ways}
+use Rattle.std.proofs.Common.{◌≡◌, ℕ, ◌+◌, ◌<◌, ◌≤◌, Bool, true, List, [], ◌∷◌, ◌++◌, length, drop, get_or, sym, ap, subst, ◌∙◌, append_assoc, append-nil, arith}
+use Rattle.std.specs.Prelude.{All}
 use Rattle.std.proofs.lemmas.List.{drop_all}
 use Rattle.std.proofs.lemmas.List.Elements.{All-nil, All-cons, All-head, All-tail}
 use Rattle.m2v_model.specs.Units.{Units, joined}
@@ -19,34 +18,6 @@ use Rattle.m2v_mend.specs.Copying.{IsSame, units_behind, IsFront, IsCopy, AreCop
 use Rattle.m2v_mend.proofs.Parting.{next_left}
 
 -- ---- one piece
-
-pub same_units : (p q : Piece) → IsUnits p → IsSame p q → IsUnits q
-same_units p q whole s = s.bytes ∙ whole ∙ ap (λ (w : List ℕ). joined (units_of w)) (sym s.bytes)
-
-pub same_header : (p q : Piece) (b : Bool) → b ≡ has_sequence (units_of (whole_of p)) → IsSame p q → b ≡ has_sequence (units_of (whole_of q))
-same_header p q b e s = e ∙ ap (λ (w : List ℕ). has_sequence (units_of w)) (sym s.bytes)
-
--- nothing is left out
-left_whole : (begun : Bool) (p : Piece) → IsUnits p → units_behind begun (units_of (whole_of p)) ≡ units_of (whole_of p) → IsFront begun p p
-left_whole begun p whole same = λ h. record {
-  bytes = whole ∙ ap joined (sym same);
-  units = sym same;
-  place = λ e. refl;
-  end = refl;
-}
-
-pub front_whole : (begun sequence : Bool) (p : Piece) → IsUnits p → sequence ≡ has_sequence (units_of (whole_of p)) → (begun || not sequence) ≡ true → IsFront begun p p
-front_whole true sequence p whole e h = left_whole true p whole refl
-front_whole false true p whole e h = absurd cc
-front_whole false false p whole e h = λ header. absurd (both_ways (has_sequence (units_of (whole_of p))) (sym e) (header refl))
-
-pub front_cut : (p q : Piece) → IsFromHeader p q → IsFront false p q
-front_cut p q f = λ h. record {
-  bytes = f.bytes;
-  units = f.units;
-  place = λ e. absurd cc;
-  end = omega (arith, f.place, f.length_is);
-}
 
 pub cut_units : (p q : Piece) → IsFromHeader p q → IsUnits q
 cut_units p q f = f.bytes ∙ ap joined (sym f.units)
@@ -68,9 +39,6 @@ copied begun low m p q r s f e = λ h.
 -- copies of the members from one on are copies of all, behind those that were made
 abbrev pub Continue : Bool → Bool → ℕ → List Member → List Piece → ℕ → Type 0
 Continue begun behind low ms done i = (qs : List Piece) → AreCopies behind low (pieces_of (drop i ms)) qs → AreCopies begun low (pieces_of ms) (done ++ qs)
-
-pub copies_none : (begun : Bool) (low : ℕ) (ms : List Member) → Continue begun begun low ms [] 0
-copies_none begun low ms = λ qs h. h
 
 pub copies_more : (begun behind : Bool) (low : ℕ) (ms : List Member) (done : List Piece) (i : ℕ) (m : Member) (q : Piece) → i < length ms → m ≡ get_or ms i m → IsCopy behind low m.piece q → Continue begun behind low ms done i
     → Continue begun true low ms (done ++ q ∷ []) (i + 1)

@@ -282,12 +282,6 @@ edited_next e us z bytes at n new next h some f is value ended same =
       over = i.over;
     })
 
--- all of them
-pub edited_all : (e : Edit) (us : Units) (z : ℕ) (bytes : List ℕ) (at : ℕ) → (h : EditedTo e us z bytes at) → length bytes ≤ at → (text_of bytes z ≡ joined (map (edited e) us)) × IsZeroEnded bytes z
-edited_all e us z bytes at h le =
-    let o = h.over le in
-    (h.text ∙ ap (λ (l : Units). joined (map (edited e) h.done) ++ joined l) o.0 ∙ append-nil (joined (map (edited e) h.done)) ∙ ap (λ (l : Units). joined (map (edited e) l)) (sym (append-nil h.done) ∙ ap (λ (l : Units). h.done ++ l) (sym o.0) ∙ sym h.are), o.1)
-
 -- the first unit is there
 pub first_there : (bytes : List ℕ) (z : ℕ) → 0 < length bytes → IsWhole (text_of bytes z) → units_of (text_of bytes z) ≡ [] → ⊥
 first_there bytes z some whole none = absurd (omega (arith, some, ap length (whole ∙ ap joined none), text_length bytes z))

@@ -65,10 +65,6 @@ here_before : (u : List ℕ) (us : Units) → is_sequence u ≡ true → before_
 unfolding before_sequence
 here_before u us on = rw on refl
 
-more_before : (u : List ℕ) (us : Units) → is_sequence u ≡ false → before_sequence (u ∷ us) ≡ u ++ before_sequence us
-unfolding before_sequence
-more_before u us off = rw off refl
-
 pub header_none : (all us : Units) (total : ℕ) → total + 8 * length (before_sequence us) ≡ 8 * length (before_sequence all) + unit_bits us → us ≡ [] → total / 8 ≡ length (before_sequence all)
 header_none all us total e none = omega (arith, e, ap unit_bits none, ap (λ (l : Units). length (before_sequence l)) none, ap length none_before)
 

@@ -1,6 +1,6 @@
 -- The last sequence header, with one unit more.
 use Rattle.std.proofs.Common.{◌≡◌, ◌⊎◌, ℕ, ◌+◌, ◌-◌, ◌<◌, ◌≤◌, Bool, true, false, List, [], ◌∷◌, ◌++◌, length, get_or, take, drop, replicate, inl, inr, refl, sym, ap, subst, ◌∙◌, append_assoc, append-nil, arith}
-use Rattle.std.specs.Prelude.{nat_eq, nat_le, ◌&&◌, ◌||◌, not, if◌then◌else◌}
+use Rattle.std.specs.Prelude.{nat_le, ◌&&◌, ◌||◌, not, if◌then◌else◌}
 use Rattle.std.proofs.lemmas.Bool.{cases_Bool, both_ways, leb-true, le-leb}
 use Rattle.std.proofs.lemmas.List.{length-append, length-drop, length-replicate, drop-drop, drop-append-le, drop_at, take_at, take-append-le, take_all, drop_all}
 use Rattle.std.proofs.Math.Bool.{and-false, or-false, or-true, or_assoc, or_comm}
@@ -266,10 +266,6 @@ walked_start z bytes h whole ended = record {
 pub walked_whole : (us : Units) (z : ℕ) (bytes : List ℕ) (at : ℕ) (old new : Heads) → WalkedTo us z bytes at old new → at < length bytes → IsWhole (text_of (drop at bytes) z)
 walked_whole us z bytes at old new w lt = let e = (w.going lt).0 in e ∙ ap joined (sym (ap units_of e ∙ cut_units w.rest w.units))
 
--- the zero bytes of a unit of which so many bytes are kept
-abbrev pub zeros_for : ℕ → List ℕ → ℕ → ℕ
-zeros_for n b z = if nat_eq n (length b) then z else 0
-
 pub walked_next : (us : Units) (z : ℕ) (bytes : List ℕ) (at n behind : ℕ) (old mid new : Heads) → WalkedTo us z bytes at old mid → at < length bytes → IsFirstLength (drop at bytes) z n
     → ((n ≡ length (drop at bytes)) × (behind ≡ z)) ⊎ ((n ≡ length (drop at bytes) → ⊥) × (behind ≡ 0))
     → IsBehind mid (text_of (take n (drop at bytes)) behind) new → WalkedTo us z bytes (at + n) old new
@@ -332,10 +328,6 @@ walked_next us z bytes at n behind old mid new w some f zeros step =
     kept_unit : (b : List ℕ) (z n behind : ℕ) (u : List ℕ) (others : Units) → take n b ≡ u → text_of (drop n b) z ≡ joined others → AreUnits others → ((n ≡ length b) × (behind ≡ z)) ⊎ ((n ≡ length b → ⊥) × (behind ≡ 0)) → text_of (take n b) behind ≡ u
     kept_unit b z n behind u others own tail are (inl h) = ap (λ (m : ℕ). text_of (take n b) m) (h.1 ∙ none_over b z n others h.0 tail are) ∙ append-nil (take n b) ∙ own
     kept_unit b z n behind u others own tail are (inr h) = ap (λ (m : ℕ). text_of (take n b) m) h.1 ∙ append-nil (take n b) ∙ own
-
-pub walked_all : (us : Units) (z : ℕ) (bytes : List ℕ) (at : ℕ) (old new : Heads) → WalkedTo us z bytes at old new → length bytes ≤ at → (before : Units) → IsHeads before old → IsHeads (before ++ us) new
-walked_all us z bytes at old new w le before h =
-    subst (λ (l : Units). IsHeads (before ++ l) new) (sym (append-nil w.done) ∙ ap (λ (l : Units). w.done ++ l) (sym (w.over le)) ∙ sym w.are) (w.heads before h)
 
 -- ---- as the program shows it
 

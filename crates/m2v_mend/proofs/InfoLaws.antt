@@ -4,15 +4,15 @@ use Rattle.std.specs.Prelude.{nat_eq, nat_le, ◌||◌, if◌then◌else◌, Opt
 use Rattle.std.proofs.lemmas.Bool.{le-leb, eq-eqb, ne_eqb}
 use Rattle.std.proofs.lemmas.List.{length-append}
 use Rattle.std.proofs.Math.Bool.{or-false, or_assoc}
-use Rattle.m2v_model.specs.Units.{Units, joined, unit_bits, body, Next}
+use Rattle.m2v_model.specs.Units.{Units, joined, unit_bits, body}
 use Rattle.m2v_model.specs.Looking.{number_from}
 use Rattle.m2v_model.specs.Streams.{value_of}
 use Rattle.m2v_model.proofs.CutLaws.{joined_bits}
-use Rattle.m2v_law_group.specs.Groups.{is_picture, is_sequence, is_group, has_sequence, group_headers, next_unit, is_number, coded_pictures}
+use Rattle.m2v_law_group.specs.Groups.{is_picture, is_sequence, is_group, has_sequence, group_headers, is_number, coded_pictures}
 use Rattle.m2v_law_seam.specs.Spans.{units_of, units_in, begins_kind, has_group, picture_count, number_or, is_kind, first_is, is_matrices, has_matrices}
 use Rattle.m2v_law_seam.specs.Faults.{before_picture, before_matrices}
 use Rattle.m2v_mend.specs.declared.info.Counted.{Counted}
-use Rattle.m2v_mend.specs.Telling.{first_kind, unit_or_none, IsCounted, place_with, counted_with}
+use Rattle.m2v_mend.specs.Telling.{first_kind, IsCounted, place_with, counted_with}
 
 -- ---- what is counted
 
@@ -132,13 +132,6 @@ pub counted_all : (all us : Units) (c : Counted) → CountedTo all us c → us �
 counted_all all us c h none = subst (IsCounted all) (h.going ∙ ap (counted_from c) none ∙ ended c) (counted_is all)
 
 -- ---- the first picture
-
-pub unit_behind : (found : Option (List ℕ)) (us rest : Units) → Next found us rest → unit_or_none found ≡ next_unit us
-unit_behind None us rest h = ap next_unit (sym h.0)
-unit_behind (Some u) us rest h = ap next_unit (sym h)
-
-pub place_of : (us : Units) (total left : ℕ) → total ≡ unit_bits us + left → (total - left) / 8 ≡ length (joined us)
-place_of us total left e = omega (arith, e, joined_bits us)
 
 no_before : before_picture 0 [] ≡ []
 unfolding before_picture

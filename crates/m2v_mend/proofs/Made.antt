@@ -2,7 +2,7 @@
 use Rattle.std.proofs.Common.{◌≡◌, ◌≢◌, ℕ, ◌+◌, ◌*◌, ◌≤◌, Bool, true, false, List, [], ◌∷◌, ◌++◌, length, map, Option, Some, None, Ok, refl, sym, ap, subst, ◌∙◌, append_assoc, append-nil, arith}
 use Rattle.std.specs.Prelude.{not, is_none, nat_eq, ◌&&◌, if◌then◌else◌, unwrap_or}
 use Rattle.std.specs.Option.{option_map}
-use Rattle.std.proofs.lemmas.Bool.{eqb-true, not-true, not-false, and_right}
+use Rattle.std.proofs.lemmas.Bool.{eqb-true, and_right}
 use Rattle.std.proofs.lemmas.List.{length-append, length-map, nil_from_length}
 use Rattle.std.proofs.Math.Bool.{and-false}
 use Rattle.m2v_model.specs.declared.fault.FaultKind.TheVariants.{Unsupported}
@@ -15,7 +15,7 @@ use Rattle.m2v_law_seam.specs.Spans.{units_of, units_in, has_group, begins_kind,
 use Rattle.m2v_law_seam.specs.Seams.{lowered, text_behind, first_reference, leading, has_own_head, opened_pieces, opened}
 use Rattle.m2v_law_seam.specs.Strands.{read_of, first_in, frames_in, reads, agrees, all_fit, is_short, is_strand}
 use Rattle.m2v_law_seam.specs.Faults.{has_head, begins_entry, is_under_way, strand_bytes, fault_alone, fault_of, fault_behind}
-use Rattle.m2v_law_seam.specs.Mending.{Gap, with_gap, Mending, strand_of, strands_of, frames_shown, first_kept, groups_behind, low_of_span, strand_with, goes_behind, put_behind, begins_strand, leading_gap, gaps_leading, strand_begun, span_gap, left_out, with_span, ended_by, strand_ended}
+use Rattle.m2v_law_seam.specs.Mending.{Gap, with_gap, Mending, strand_of, strands_of, frames_shown, first_kept, groups_behind, low_of_span, strand_with, goes_behind, put_behind, begins_strand, gaps_leading, strand_begun, span_gap, left_out, with_span, ended_by, strand_ended}
 use Rattle.m2v_law_seam.specs.Told.{first_fault}
 use Rattle.m2v_law_seam.proofs.Chain.{reads_as, agree_self}
 use Rattle.m2v_law_seam.proofs.Fold.{begins_parts}
@@ -24,12 +24,11 @@ use Rattle.m2v_law_seam.proofs.Pictures.{none_from}
 use Rattle.m2v_decode.specs.m2v_dec_piece.declared.answer.Piece.{Piece}
 use Rattle.m2v_decode.specs.m2v_dec_piece.declared.answer.Fault.{Fault}
 use Rattle.m2v_mend.specs.declared.begin.Begun.{Begun}
-use Rattle.m2v_mend.specs.declared.begin.Leading.{Leading}
 use Rattle.m2v_mend.specs.declared.gap.Gap.{Gap as Kept}
 use Rattle.m2v_mend.specs.declared.mender.Mender.{Mender}
 use Rattle.m2v_mend.specs.declared.parts.SpanParts.{SpanParts}
 use Rattle.m2v_mend.specs.Members.{AreLater, AreSpanPieces, IsSpan}
-use Rattle.m2v_mend.specs.Putting.{CanBePut, IsUnderWay, IsLeading, BeginTold}
+use Rattle.m2v_mend.specs.Putting.{CanBePut, IsUnderWay, BeginTold}
 use Rattle.m2v_mend.specs.Making.{fault_told, gap_told, fault_first, IsMade, IsUnder}
 use Rattle.m2v_mend.specs.Mender.{over, IsWhyNot, WentOn}
 use Rattle.m2v_mend.specs.Strand.{StrandState, wholes_of, IsAt}
@@ -80,10 +79,6 @@ over_made written listed m x new frames bytes is f b shape out = record {
   fault = λ bits. is.fault bits ∙ ap (λ (y : Mender). fault_first bits y.fault) (sym shape);
 }
 
--- a strand that has a byte ends
-pub ended_some : (m : Mending) (b : ℕ) (t : List ℕ) → m.strand ≡ Some (b ∷ t) → strand_ended m ≡ over m
-ended_some m b t e = ap (λ (o : Option (List ℕ)). ended_by o m) e
-
 pub ended_none : (m : Mending) → strand_of m.strand ≡ [] → strand_ended m ≡ m
 ended_none m e = by m.strand e
   where
@@ -118,10 +113,6 @@ no_text [] low h off = absurd h
 no_text (p ∷ ps) low h off =
     ap (λ (us : Units). joined (lowered low us)) (none_from (units_of p ++ units_in ps) (sequence_append (units_of p) (units_in ps) off (later_none ps h.1)))
 
--- whether a span goes there
-pub goes_none : (m : Mending) (s : Span) → m.strand ≡ None → goes_behind m s ≡ false
-goes_none m s e = ap (λ (o : Option (List ℕ)). not (is_none o) && (is_short s && is_strand m.opening m.first (strand_bytes o ++ text_behind (strand_bytes o) (low_of_span m s) s.pieces))) e
-
 pub goes_by : (m : Mending) (s : Span) (bytes : List ℕ) → m.strand ≡ Some bytes → is_short s ≡ true → goes_behind m s ≡ is_strand m.opening m.first (bytes ++ text_behind bytes (low_of_span m s) s.pieces)
 goes_by m s bytes e short =
     ap (λ (o : Option (List ℕ)). not (is_none o) && (is_short s && is_strand m.opening m.first (strand_bytes o ++ text_behind (strand_bytes o) (low_of_span m s) s.pieces))) e
@@ -134,10 +125,6 @@ pub with_long : (first : Option Sequence) (s : Span) → is_short s ≡ false �
 with_long first s off =
     ap (λ (b : Bool). has_head s && (begins_entry s.pieces && (begins_kind 1 s.pieces && (not (has_matrices (units_in (leading s.pieces))) && ((b && all_fit (opened_pieces s)) && is_strand false first (opened s)))))) off
     ∙ and_right (has_head s) _ (and_right (begins_entry s.pieces) _ (and_right (begins_kind 1 s.pieces) _ (and-false (not (has_matrices (units_in (leading s.pieces)))))))
-
--- its fault
-pub fault_none : (m : Mending) (s : Span) → m.strand ≡ None → is_short s ≡ true → fault_of m.strand (low_of_span m s) m.first s ≡ fault_alone m.first s
-fault_none m s e short = ap (λ (o : Option (List ℕ)). fault_of o (low_of_span m s) m.first s) e ∙ ap (λ (b : Bool). if not b then (Unsupported, 8 * s.place) else fault_alone m.first s) short
 
 pub fault_first_none : (m : Mending) (s : Span) → m.strand ≡ Some [] → is_short s ≡ true → has_own_head s.pieces ≡ false → fault_of m.strand (low_of_span m s) m.first s ≡ fault_alone m.first s
 fault_first_none m s e short off =
@@ -209,11 +196,6 @@ bytes_with written listed m x z n is e sum =
     let all = ap length (under_bytes m u.0 u.1) ∙ length-append (joined m.done) u.0 in
     omega (arith, sum, all, is.bytes, (u.2).length_is)
 
-pub bytes_none : (written : List ℕ) (listed : List Gap) (m : Mending) (x : Mender) → IsMade written listed m x → x.strand ≡ None → x.bytes ≡ length (joined (strands_of m))
-bytes_none written listed m x is e =
-    let u = subst (IsUnder m) e is.strand in
-    is.bytes ∙ ap (λ (l : List (List ℕ)). length (joined l)) (sym (none_under m (ap strand_of u)))
-
 pub frames_with : (written : List ℕ) (listed : List Gap) (m : Mending) (x : Mender) (z : StrandState) (n f : ℕ) → IsMade written listed m x → x.strand ≡ Some z → z.bytes ≢ 0
     → ((bytes : List ℕ) → IsAt z bytes → 1 ≤ length bytes → f ≡ frames_in (read_of bytes)) → n ≡ x.frames + f → n ≡ frames_shown (strands_of m)
 frames_with written listed m x z n f is e some own sum =
@@ -225,14 +207,6 @@ frames_with written listed m x z n f is e some own sum =
     by (b ∷ t) es at =
         let all = ap frames_shown (one_under m b t es) ∙ frames_append m.done ((b ∷ t) ∷ []) in
         omega (arith, sum, all, is.frames, own (b ∷ t) at (omega arith), frames_one (b ∷ t))
-
-pub frames_without : (written : List ℕ) (listed : List Gap) (m : Mending) (x : Mender) → IsMade written listed m x → strand_of m.strand ≡ [] → x.frames ≡ frames_shown (strands_of m)
-frames_without written listed m x is e = is.frames ∙ ap frames_shown (sym (none_under m e))
-
--- no strand, or one without a byte
-pub nothing_under : (m : Mending) (o : Option StrandState) → IsUnder m o → ((z : StrandState) → o ≡ Some z → z.bytes ≡ 0) → strand_of m.strand ≡ []
-nothing_under m None u none = ap strand_of u
-nothing_under m (Some z) u none = ap strand_of (u.1 ∙ ap Some (nil_from_length u.0 (sym (u.2).length_is ∙ none z refl)))
 
 -- ---- gaps
 
@@ -279,16 +253,6 @@ same_gap m s x p f frames is fault = rw (frames, is.place, is.bytes, is.pictures
 
 pub left_made : (written : List ℕ) (listed : List Gap) (m : Mending) (s : Span) (g : Gap) (new : Mender) → g ≡ span_gap m s → IsMade written listed (record (over m) { gaps = with_gap m.gaps g }) new → IsMade written listed (left_out m s) new
 left_made written listed m s g new e is = subst (λ (h : Gap). IsMade written listed (record (over m) { gaps = with_gap m.gaps h }) new) e is
-
-pub same_leading : (s : Span) (k : ℕ) (frames place from : ℕ) (l : Leading) → frames ≡ k → place ≡ s.place → from ≡ place + l.before → IsLeading s l
-    → gap_told (record { frames = frames; from = from; bytes = l.bytes; pictures = l.pictures; fault = None }) ≡ leading_gap k s
-same_leading s k frames place from l f p sum is = rw (f, sum, p, is.before, is.bytes, is.pictures) refl
-
-pub leading_some : (gs : List Gap) (k : ℕ) (s : Span) (l : Leading) → IsLeading s l → l.some ≡ true → with_gap gs (leading_gap k s) ≡ gaps_leading gs k s
-leading_some gs k s l is on = ap (λ (b : Bool). if b then gs else with_gap gs (leading_gap k s)) (sym (not-true (nat_eq (length (leading s.pieces)) 0) (sym is.some ∙ on)))
-
-pub leading_none : (gs : List Gap) (k : ℕ) (s : Span) (l : Leading) → IsLeading s l → l.some ≡ false → gs ≡ gaps_leading gs k s
-leading_none gs k s l is off = ap (λ (b : Bool). if b then gs else with_gap gs (leading_gap k s)) (sym (not-false (nat_eq (length (leading s.pieces)) 0) (sym is.some ∙ off)))
 
 -- ---- which of the three
 

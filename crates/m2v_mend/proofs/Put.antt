@@ -1,8 +1,7 @@
 -- A span that is put behind the strand that is under way, or isn't.
-use Rattle.std.proofs.Common.{◌≡◌, ℕ, ◌*◌, Bool, true, false, List, [], ◌∷◌, ◌++◌, length, Option, Some, None, Result, refl, sym, ap, subst, ◌∙◌, arith}
+use Rattle.std.proofs.Common.{◌≡◌, ℕ, Bool, true, false, List, [], ◌∷◌, ◌++◌, length, Option, Some, None, Result, refl, sym, ap, subst, ◌∙◌, arith}
 use Rattle.std.proofs.lemmas.List.{nil_from_length}
 use Rattle.std.proofs.lemmas.Bool.{not-true, not-false}
-use Rattle.m2v_model.specs.declared.fault.FaultKind.TheVariants.{Unsupported}
 use Rattle.m2v_model.specs.declared.state.Sequence.{Sequence}
 use Rattle.m2v_model.specs.Units.{joined}
 use Rattle.m2v_decode.specs.m2v_dec_piece.declared.answer.Piece.{Piece}
@@ -20,10 +19,10 @@ use Rattle.m2v_mend.specs.declared.mender.Mender.{Mender}
 use Rattle.m2v_mend.specs.declared.parts.SpanParts.{SpanParts}
 use Rattle.m2v_mend.specs.Members.{AreSpanPieces, IsOfStretch, IsSpan}
 use Rattle.m2v_mend.specs.Putting.{CanBePut, IsUnderWay, PutTold, BeginTold}
-use Rattle.m2v_mend.specs.Making.{fault_told, IsMade, IsUnder, CanBeNext}
+use Rattle.m2v_mend.specs.Making.{IsMade, IsUnder, CanBeNext}
 use Rattle.m2v_mend.specs.Mender.{over, IsFirstGroup, WentOn, IsWhyNot, IsWithout, PutOrNot, BehindTold, IsLong, IsNotLong}
 use Rattle.m2v_mend.specs.Strand.{StrandState, wholes_of, IsAt}
-use Rattle.m2v_mend.proofs.Made.{no_text, goes_by, goes_long, fault_first_none, fault_put, fault_long, some_there, strand_made, put_is, under_bytes, over_made, begins_on, left_on}
+use Rattle.m2v_mend.proofs.Made.{no_text, goes_by, fault_first_none, fault_put, some_there, strand_made, put_is, under_bytes, over_made, begins_on, left_on}
 
 -- a span in memory that isn't long is within the limits
 pub short_is : (s : Span) (x : SpanParts) → IsSpan s x → x.long ≡ false → is_short s ≡ true
@@ -97,12 +96,6 @@ behind_told written listed m s behinds.Put x y new frames bytes is f n told not_
 behind_told written listed m s behinds.NotUnderWay x y new frames bytes is f n told not_put shape = (told.0, told.1, without_made written listed m x y new frames bytes is f n told.2 shape)
 behind_told written listed m s (behinds.Refused g) x y new frames bytes is f n told not_put shape = (told.0, told.1, without_made written listed m x y new frames bytes is f n told.2 shape)
 behind_told written listed m s (behinds.Long g) x y new frames bytes is f n told not_put shape = absurd told
-
-pub long_told : (written : List ℕ) (listed : List Gap) (m : Mending) (s : Span) (p : SpanParts) (x new : Mender) (fault : Fault) (frames bytes : ℕ) → IsMade written listed m x → IsSpan s p → p.long ≡ true → fault_told fault ≡ (Unsupported, 8 * p.place)
-    → frames ≡ frames_shown (strands_of m) → bytes ≡ length (joined (strands_of m)) → new ≡ record x { strand = None; low = 0; frames = frames; bytes = bytes } → BehindTold written listed m s (behinds.Long fault) new
-long_told written listed m s p x new fault frames bytes is span on fe f n shape =
-    let off = long_is s p span on in
-    (off, goes_long m s off, fault_long m s off ∙ ap (λ (k : ℕ). (Unsupported, 8 * k)) (sym span.place) ∙ sym fe, over_made written listed m x new frames bytes is f n (shape ∙ ap (λ (z : Mender). record x { strand = None; low = 0; frames = frames; bytes = bytes; out = z.out }) (sym shape)) (ap (λ (z : Mender). z.out.items) shape))
 
 pub long_by : (b : Behind) (long : Bool) → IsNotLong b → long ≡ false → IsLong b long
 long_by behinds.Put long n e = tt

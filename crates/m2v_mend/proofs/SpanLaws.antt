@@ -242,7 +242,7 @@ module _ (s : Span) (old new : SpanParts) (m : Member) (kept : ℕ) (long : Bool
         long = p.longs ∙ long_by old.long refl;
         pieces = λ e.
             let off = was_short (short e) in
-            ap (λ (l : List Member). wholes_of (pieces_of l)) (p.members (short e)) ∙ bodies_append old.members.items m ∙ ap (λ (l : List (List ℕ)). l ++ w ∷ []) (span.pieces off);
+            ap (λ (l : List Member). wholes_of (pieces_of l)) (p.members (short e)) ∙ bodies_append old.members.items (m ∷ []) ∙ ap (λ (l : List (List ℕ)). l ++ w ∷ []) (span.pieces off);
         turn = λ e.
             let off = was_short (short e) in
             subst (λ (l : List Member). AreInTurn s.place (pieces_of l)) (sym (p.members (short e))) (turn_more s.place old.members.items m (span.turn off) (behind off));

@@ -103,17 +103,3 @@ marked_short u zero le h on lt =
 marked_short u (suc z) le h on lt =
     let zero_there : get_or u 3 0 ≡ 0 = h (omega arith) 3 (omega (arith, lt)) in
     absurd (omega (arith, zero_there, on))
-
-pub marked_ended : (u : List ℕ) (z b : ℕ) → 8 ≤ length u → get_or u 3 0 ≡ 0xB8 → EndsInZeros u z → IsZeroEnded (set u 7 b) z
-marked_ended [] z b le on h pos = absurd (omega arith)
-marked_ended (a ∷ []) z b le on h pos = absurd (omega arith)
-marked_ended (a ∷ s ∷ []) z b le on h pos = absurd (omega arith)
-marked_ended (a ∷ s ∷ c ∷ []) z b le on h pos = absurd (omega arith)
-marked_ended (a ∷ s ∷ c ∷ d ∷ []) z b le on h pos = absurd (omega arith)
-marked_ended (a ∷ s ∷ c ∷ d ∷ e ∷ []) z b le on h pos = absurd (omega arith)
-marked_ended (a ∷ s ∷ c ∷ d ∷ e ∷ f ∷ []) z b le on h pos = absurd (omega arith)
-marked_ended (a ∷ s ∷ c ∷ d ∷ e ∷ f ∷ g ∷ []) z b le on h pos = absurd (omega arith)
-marked_ended (a ∷ s ∷ c ∷ d ∷ e ∷ f ∷ g ∷ i ∷ []) z b le on h pos =
-    let zero_there : d ≡ 0 = h pos 3 (omega arith) in
-    absurd (omega (arith, zero_there, on))
-marked_ended (a ∷ s ∷ c ∷ d ∷ e ∷ f ∷ g ∷ i ∷ x ∷ w) z b le on h pos = (omega arith, last_of (a ∷ s ∷ c ∷ d ∷ e ∷ f ∷ g ∷ b ∷ []) x w ∙ sym (get_or-append-add (a ∷ s ∷ c ∷ d ∷ e ∷ f ∷ g ∷ i ∷ []) (x ∷ w) (length w) 0) ∙ h pos (8 + length w) (omega arith))

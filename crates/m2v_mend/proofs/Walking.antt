@@ -28,7 +28,7 @@ use Rattle.m2v_decode.specs.m2v_dec_piece.declared.answer.Piece.{Piece}
 use Rattle.m2v_decode.specs.Decoding.{Decoding, ShowsFrames, between, whole_of}
 use Rattle.m2v_decode.proofs.Showing.{shows_on}
 use Rattle.m2v_mend.specs.declared.standing.Standing.{Standing}
-use Rattle.m2v_mend.specs.Strand.{note_stands, note_anchors, broken_with, standing_with, StrandState, Steps, HasCome}
+use Rattle.m2v_mend.specs.Strand.{note_anchors, broken_with, standing_with, StrandState, Steps, HasCome}
 
 -- ---- pictures as they are noted
 
@@ -95,9 +95,6 @@ pub one_told : (us : Units) (es fs : Events) (b next : Between) (v : List ℕ) (
 one_told us es fs b next v vs h none first few e = let n = count_told us es fs b next v vs h none first e in omega (arith, n, few)
 
 -- ---- how its picture stands
-
-same_stands : (anchors k : ℕ) (p : Picture) → note_stands anchors (note_of k p) ≡ may_stand anchors p
-same_stands anchors k p = refl
 
 pub same_anchors : (anchors k : ℕ) (p : Picture) → EndsSo p → note_anchors anchors (note_of k p) ≡ anchors_behind anchors p
 same_anchors anchors k p e = ap (λ (b : Bool). if b && not (is_b p.info.kind) then one_anchor_more anchors else anchors) (sym e)
