@@ -6,10 +6,10 @@ use Rattle.m2v_tool.specs.Mending.{mend_meant}
 use Rattle.m2v_tool.proofs.NumberLaws.{found_some, found_none}
 use Rattle.m2v_tool.proofs.mend.mend_words.Goals as goal
 
-pub returns-in-Some : goal.returns-in-Some
+pub returns-in_ok-list-in-Some : goal.returns-in_ok-list-in-Some
 unfolding mend_meant
-returns-in-Some c =
-    ap Some c.in_ok-list.ensures ∙ ap (option_map (first_of (codes "list"))) (found_some (λ m. rows_of (found_of m)) _ _ _ _ _ c.in_ok-matches.ensures c.in_ok-mend_command.ensures c.in-Some.is)
+returns-in_ok-list-in-Some c =
+    ap Some c.in_ok-list-in-Some.ensures ∙ ap (option_map (first_of (codes "list"))) (found_some (λ m. rows_of (found_of m)) _ _ _ _ _ c.in_ok-matches.ensures c.in_ok-mend_command.ensures c.in-Some.is)
 
 pub returns-in-None : goal.returns-in-None
 unfolding mend_meant
