@@ -1,6 +1,6 @@
 -- The least that a coding of a prediction scores.
 use Rattle.std.proofs.Common.{◌≡◌, ℕ, zero, suc, ◌+◌, ◌*◌, ◌^◌, ◌≤◌, ◌<◌, Bool, true, false, cond, inl, inr, List, [], ◌∷◌, filter, length, map, refl, ap, sym, ◌∙◌, subst, arith, ℤ}
-use Rattle.std.specs.Prelude.{nat_lt, min, sum_by, slice_index}
+use Rattle.std.specs.Prelude.{nat_lt, min, sum_by, slice_index, count_ones}
 use Rattle.std.specs.List.{range_with_len}
 use Rattle.std.proofs.Math.Nat.{mul-le-mul_left}
 use Rattle.std.proofs.Math.ListN.{length-map, get_or}
@@ -24,7 +24,8 @@ use Rattle.m2v_choose.specs.Candidates.{coded_by, samples_by, has_block}
 use Rattle.m2v_choose.specs.Choice.{bits_taken, score}
 use Rattle.m2v_choose.specs.declared.task.Task.{Task}
 use Rattle.m2v_choose.specs.declared.trial.Best.{Best}
-use Rattle.m2v_choose.specs.Trials.{AreSquares, References, decided, IsRated, Tried, Predicts, IsHeader, coded_least, block_squared, uncoded_squared, with_blocks, sends_code}
+use Rattle.m2v_choose.specs.Trials.{AreSquares, References, decided, IsRated, Tried, Predicts, IsHeader, coded_least, four_each, block_squared, uncoded_squared, with_blocks, sends_code}
+use Rattle.m2v_vlc.proofs.ValueLaws.{below, agree}
 use Rattle.m2v_choose.proofs.Sums.{sum_more}
 use Rattle.m2v_choose.proofs.Written.{coded_some, pattern_most}
 use Rattle.m2v_choose.proofs.Tried.{written_score, kept, tried_none}
@@ -36,6 +37,14 @@ use Rattle.m2v_macroblock.proofs.m2v_block.Shortest.{block_least}
 
 abbrev four : ℕ → ℕ → ℕ
 four pattern b = cond (is_coded pattern b) 4 0
+
+-- by the ones of the pattern
+all_four : below (λ p. 4 * count_ones p) 64 ≡ below four_each 64
+unfolding below four_each lib.Count.ones
+all_four = refl
+
+pub ones_four : (p : ℕ) → p < 64 → 4 * count_ones p ≡ four_each p
+ones_four p most = agree (λ k. 4 * count_ones k) four_each 64 p all_four most
 
 module _ (c : PictureContext) (st : SliceState) (m : MacroSyntax) (ls : List (List ℤ)) (other : m.kind.intra ≡ false) (own : m.pattern ≡ pattern_of ls)
     (whole : (b : ℕ) → b < 6 → length (block_levels ls b) ≡ 64) where
@@ -124,10 +133,14 @@ module _ (r : References) (t : Task) (p : Prediction) (bare : MacroSyntax) (same
   as_coded = λ i. written (with_blocks (same i) (sends_code t.state.now k.q) k.q k.dct_field (pattern_of (levels_by (decided r t) (samples_by (decided r t) p) false k))) (levels_by (decided r t) (samples_by (decided r t) p) false k)
 
   module _ (n : ℕ) (header : IsHeader t bare n) (prediction : List ℕ) (samples : prediction ≡ samples_by (decided r t) p) (bytes : (i : ℕ) → get_or prediction i 0 < 2 ^ 8) where
-    pub scores : 0 < pattern_of (levels_by (decided r t) (samples_by (decided r t) p) false k)
-        → coded_least ((2 * t.limits.now.q) ^ 2) n (block_squared k.dct_field t.source.now.at prediction) ≤ score (decided r t) (coded_by (decided r t) p k)
-    unfolding coded_least bits_taken macroblock_text uncoded_squared
-    scores some =
+    -- by the blocks that are coded
+    scores_by : 0 < pattern_of (levels_by (decided r t) (samples_by (decided r t) p) false k)
+        → (2 * t.limits.now.q) ^ 2 * n
+        + ((2 * t.limits.now.q) ^ 2 * four_each (pattern_of (levels_by (decided r t) (samples_by (decided r t) p) false k))
+        + 8 * uncoded_squared (pattern_of (levels_by (decided r t) (samples_by (decided r t) p) false k)) (block_squared k.dct_field t.source.now.at prediction))
+        ≤ score (decided r t) (coded_by (decided r t) p k)
+    unfolding four_each bits_taken macroblock_text
+    scores_by some =
         let d = decided r t in
         let ls = levels_by d (samples_by d p) false k in
         let m = with_blocks bare (sends_code t.state.now k.q) k.q k.dct_field (pattern_of ls) in
@@ -153,8 +166,14 @@ module _ (r : References) (t : Task) (p : Prediction) (bare : MacroSyntax) (same
           ap (λ (z : ℕ). bit * z) (length-append before blocks),
           mul-le-mul_left bit long,
           mul-le-mul_left bit some_blocks,
-          lesser_all (pattern_of ls) bit squares 6,
         )
+
+    scores : 0 < pattern_of (levels_by (decided r t) (samples_by (decided r t) p) false k)
+        → coded_least ((2 * t.limits.now.q) ^ 2) n (block_squared k.dct_field t.source.now.at prediction) ≤ score (decided r t) (coded_by (decided r t) p k)
+    unfolding coded_least uncoded_squared four_each
+    scores some =
+        let ls = levels_by (decided r t) (samples_by (decided r t) p) false k in
+        omega (arith, scores_by some, lesser_all (pattern_of ls) ((2 * t.limits.now.q) ^ 2) (block_squared k.dct_field t.source.now.at prediction) 6)
 
     -- so it is left where that is no less than the best so far
     pub left : (best : Best) → IsRated (decided r t) best → best.below ≤ coded_least ((2 * t.limits.now.q) ^ 2) n (block_squared k.dct_field t.source.now.at prediction)
@@ -169,3 +188,19 @@ module _ (r : References) (t : Task) (p : Prediction) (bare : MacroSyntax) (same
             let least = scores some in
             subst (Tried (decided r t) best best) (sym (some_coded (coded_by (decided r t) p k) some))
             (kept (decided r t) (coded_by (decided r t) p k) best rated (omega (arith, low, least)))
+
+    -- and where its pattern is known
+    pub coded_left : (best : Best) → IsRated (decided r t) best → (ls : List (List ℤ)) → ls ≡ levels_by (decided r t) (samples_by (decided r t) p) false k → 0 < pattern_of ls
+        → best.below ≤ (2 * t.limits.now.q) ^ 2 * n
+        + ((2 * t.limits.now.q) ^ 2 * four_each (pattern_of ls) + 8 * uncoded_squared (pattern_of ls) (block_squared k.dct_field t.source.now.at prediction))
+        → Tried (decided r t) best best (filter has_block (coded_by (decided r t) p k ∷ []))
+    unfolding coded_by coded_syntax
+    coded_left best rated ls same some low =
+        let d = decided r t in
+        let own : pattern_of ls ≡ pattern_of (levels_by d (samples_by d p) false k) = ap pattern_of same in
+        let bit = (2 * t.limits.now.q) ^ 2 in
+        let squares = block_squared k.dct_field t.source.now.at prediction in
+        let points = λ (z : ℕ). bit * n + (bit * four_each z + 8 * uncoded_squared z squares) in
+        let some_own : 0 < pattern_of (levels_by d (samples_by d p) false k) = omega (arith, own, some) in
+        subst (Tried d best best) (sym (some_coded (coded_by d p k) some_own))
+        (kept d (coded_by d p k) best rated (omega (arith, low, ap points own, scores_by some_own)))

@@ -245,6 +245,10 @@ pub record IsAlone (t : Task) (m : MacroSyntax) (alone : Option ℕ) : Type 0 wh
 unfoldable pub coded_least : ℕ → ℕ → (ℕ → ℕ) → ℕ
 coded_least bit header squares = bit * header + sum_by (λ b. min (8 * squares b) (bit * 4)) (range_with_len 0 6)
 
+-- four bits of each coded block
+unfoldable pub four_each : ℕ → ℕ
+four_each pattern = sum_by (λ b. cond (is_coded pattern b) 4 0) (range_with_len 0 6)
+
 -- so much at least a prediction scores with coded blocks, by a DCT type
 pub record IsLeast (t : Task) (plain : Uncoded) (dct_field : Bool) (least : ℕ) : Type 0 where
   pub header : ℕ
@@ -252,12 +256,13 @@ pub record IsLeast (t : Task) (plain : Uncoded) (dct_field : Bool) (least : ℕ)
   pub value : least ≡ coded_least ((2 * t.limits.now.q) ^ 2) header (block_squared dct_field t.source.now.at plain.prediction.now.at)
 
 -- the squares of its blocks are known, and the least that it scores with coded blocks: by DCT type 0, and by DCT type 1 where
--- the picture has it
+-- the picture has it; and so many bits at least stand before these
 pub record IsMeasured (t : Task) (plain : Uncoded) : Type 0 where
   pub frame : AreSquares false t.source.now.at plain.prediction.now.at plain.frame.now
   pub field : has_types t.context.now ≡ true → AreSquares true t.source.now.at plain.prediction.now.at plain.field.now
   pub least : IsLeast t plain false plain.frame_least
   pub field_least : has_types t.context.now ≡ true → IsLeast t plain true plain.field_least
+  pub header : IsHeader t plain.bare.now plain.header
 
 -- ---- intra macroblocks
 

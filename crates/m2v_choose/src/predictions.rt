@@ -217,6 +217,7 @@ impl Best {
             field: &field,
             frame_least: least_score(task, &frame, header),
             field_least: field_least(task, &field, header),
+            header,
         };
         self.try_predicted(task, &plain, alone, coding);
     }

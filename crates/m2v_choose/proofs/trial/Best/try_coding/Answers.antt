@@ -1,19 +1,20 @@
 use Rattle.std.proofs.lemmas.List.Elements.{All-map}
 use Rattle.m2v_quant.specs.Kinds.{IsLevel}
 use Rattle.m2v_quant.specs.declared.kind.Levels.{Levels}
-use Rattle.std.proofs.Common.{true, false, ℕ, ◌*◌, All, [], ◌∷◌, Bool, ◌≡◌, ◌<◌, refl, ap, sym, ◌∙◌, subst, arith}
+use Rattle.std.proofs.Common.{true, false, ℕ, ◌+◌, ◌*◌, ◌^◌, All, [], ◌∷◌, Bool, ◌≡◌, ◌<◌, refl, ap, sym, ◌∙◌, subst, arith}
 use Rattle.m2v_recon.specs.Steps.{levels_of}
 use Rattle.m2v_choose.specs.Decisions.{written}
 use Rattle.m2v_macro.specs.declared.values.MacroSyntax.{MacroSyntax}
 use Rattle.m2v_choose.specs.Decisions.{pattern_of}
 use Rattle.m2v_choose.specs.Laws.{IsWritable}
-use Rattle.m2v_choose.specs.Trials.{decided, Tried, block_squared, uncoded_squared, with_blocks, sends_code, quantised_by, Predicts}
+use Rattle.m2v_choose.specs.Trials.{decided, Tried, four_each, block_squared, uncoded_squared, with_blocks, sends_code, quantised_by, Predicts}
 use Rattle.std.specs.Prelude.{slice_index_or, unsigned_abs}
 use Rattle.m2v_idct.specs.Block.{nth}
 use Rattle.m2v_macroblock.specs.Macroblocks.{kind_for}
 use Rattle.m2v_choose.proofs.Empties.{none_reached, none_there}
 use Rattle.m2v_choose.proofs.Tried.{own_picture}
-use Rattle.m2v_choose.proofs.Coded.{coded_writable, kinds_plain, predicts, coding_none, coding_some}
+use Rattle.m2v_choose.proofs.Cheapest.{coded_left}
+use Rattle.m2v_choose.proofs.Coded.{coded_writable, kinds_plain, predicts, levels_are, coding_none, coding_some}
 use Rattle.m2v_choose.proofs.trial.Best.try_coding.Goals as goal
 
 pub kinds-kinds-requires-clause-picture : goal.kinds-kinds-requires-clause-picture
@@ -48,6 +49,25 @@ returns-then-pattern-eq0 c = record {
   tried = λ r p same samples made rated.
       coding_none r c.args.task.now p c.args.plain.now.bare.now same c.args.plain.now.prediction.now.at c.args.transforms.now.at.now (levels_of c.quantise_blocks-pattern.new.out) c.args.q c.args.dct_field c.kinds-kinds.result
       samples made c.kinds-kinds.ensures.value c.quantise_blocks-pattern.ensures.value (sym c.quantise_blocks-pattern.ensures.pattern ∙ c.if-pattern-eq0.true) c.args.self.now rated;
+}
+
+pub returns-then-least_coded-self : goal.returns-then-least_coded-self
+returns-then-least_coded-self c = record {
+  tried = λ r p same samples made rated.
+      let t = c.args.task.now in
+      let q = c.args.q in
+      let ls = levels_of c.quantise_blocks-pattern.new.out in
+      let pattern = c.quantise_blocks-pattern.result in
+      let bare = c.args.plain.now.bare.now in
+      let prediction = c.args.plain.now.prediction.now.at in
+      let bit = (2 * t.limits.now.q) ^ 2 in
+      let n = c.args.plain.now.header in
+      let own = c.quantise_blocks-pattern.ensures.pattern in
+      let points = λ (z : ℕ). bit * n + (bit * four_each z + 8 * uncoded_squared z (block_squared c.args.dct_field t.source.now.at prediction)) in
+      coded_left r t p bare same c.requires.bare.other (record { q = q; dct_field = c.args.dct_field }) n c.requires.measured.header prediction samples c.are_bytes.ensures c.args.self.now rated ls
+      (levels_are r t p bare same prediction c.args.transforms.now.at.now ls q c.args.dct_field c.kinds-kinds.result samples made c.kinds-kinds.ensures.value c.quantise_blocks-pattern.ensures.value)
+      (omega (arith, c.if-pattern-eq0.false, own))
+      (omega (arith, c.if-least_coded-self.true, c.least_coded.ensures, c.still_squares-still.ensures.value, ap points own));
 }
 
 pub try_written-requires-clause-writable : goal.try_written-requires-clause-writable

@@ -18,6 +18,7 @@ try_predicted-requires-clause-measured c =
         bits = c.count_alone-alone.ensures.header;
         value = c.field_least.ensures has ∙ least_known bit n true s p c.field_squares.new.out (c.field_squares.ensures has);
       };
+      header = c.count_alone-alone.ensures.header;
     }
 
 pub returns : goal.returns
