@@ -86,8 +86,9 @@ def others(data, frames):
             return 'ffmpeg shows %d bytes: %s' % (len(done.stdout), said)
     if shutil.which('mpeg2dec'):
         done = subprocess.run(['mpeg2dec', '-o', 'pgmpipe'], input=data, capture_output=True, check=False)
-        if done.stdout.count(b'P5') != frames:
-            return 'mpeg2dec shows %d frames' % done.stdout.count(b'P5')
+        shown = done.stdout.count(b'P5\n%d %d\n255\n' % (WIDTH, HEIGHT * 3 // 2))
+        if shown != frames:
+            return 'mpeg2dec shows %d frames' % shown
     return None
 
 

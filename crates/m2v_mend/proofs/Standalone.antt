@@ -187,14 +187,17 @@ record KeptBehind (ps : List (List ℕ)) (kept : List (List ℕ)) : Type 0 where
 kept_behind : (p : List ℕ) (ps : List (List ℕ)) → (kept : List (List ℕ)) × (without_leading_pieces (p ∷ ps) ≡ p ∷ kept) × KeptBehind ps kept
 kept_behind p ps =
     let f = first_field p ps (nat_eq (field_of p) 0) refl in
-    let k = f.0 in
-    (behind_first k ps, f.1, record {
-      front = take k ps;
-      middle = b_first (drop k ps);
-      last = behind_b (drop k ps);
-      all = sym (take-append-drop k ps) ∙ ap (λ (l : List (List ℕ)). take k ps ++ l) (sym (b_parts (drop k ps)));
-      are = refl;
-    })
+    let k = f.0 in (
+      behind_first k ps,
+      f.1,
+      record {
+        front = take k ps;
+        middle = b_first (drop k ps);
+        last = behind_b (drop k ps);
+        all = sym (take-append-drop k ps) ∙ ap (λ (l : List (List ℕ)). take k ps ++ l) (sym (b_parts (drop k ps)));
+        are = refl;
+      },
+    )
 
 -- without those that are left out
 can_without : (hs us : Units) (ps kept : List (List ℕ)) → KeptBehind ps kept → CanOpen hs us (units_in ps) → CanOpen hs us (units_in kept)

@@ -73,12 +73,12 @@ fn finish<K: Sink, L: Sink>(
     requires list { IsTrue (L.ready list.old) }
     ensures told { IfOk result (λ a. (c : Cutting) (first left : Option (List ℕ)) (start : Held)
         → c.place ≡ end → Comes (IsBehind false c folding.now) first left start
-
-        (held_by K.held L.held output.old list.old) → IsAll a first left start (held_by K.held L.held output.new list.new)) }
+        (held_by K.held L.held output.old list.old) → IsAll a first left start
+        (held_by K.held L.held output.new list.new)) }
     ensures err { OnErr result ((c : Cutting) (first left : Option (List ℕ)) (start : Held)
         → c.place ≡ end → Comes (IsBehind false c folding.now) first left start
-
-        (held_by K.held L.held output.old list.old) → IsCut first left start (held_by K.held L.held output.new list.new)) }
+        (held_by K.held L.held output.old list.old) → IsCut first left start
+        (held_by K.held L.held output.new list.new)) }
     ensures fell { IfErr result (FellOut (Rose (K.faults output.old) (K.faults output.new)
         ⊎ Rose (L.faults list.old) (L.faults list.new))) }
     ensures output { SinkStays K.ready K.name K.faults output.old output.new }
