@@ -6,7 +6,7 @@ use std::alloc::Global;
 pub(crate) enum Endpoint {
     Input,
     Output,
-    /// The place for reconstructions: the call that opens it is its first one.
+    /// The place for a file beside the output, of reconstructions or of a list: the call that opens it is its first one.
     Recon,
     Report,
 }
@@ -61,7 +61,7 @@ pub(crate) struct Wanted {
     pub(crate) extent: Extent,
     /// The number that `sum_of` gives of the output, where it is looked at.
     pub(crate) sum: Option<u32>,
-    /// What the place for reconstructions holds.
+    /// What the place for a file beside the output holds.
     pub(crate) recon: Vec<u8>,
     /// The name under which it is open.
     pub(crate) recon_name: Option<String>,

@@ -15,7 +15,7 @@ pub(crate) struct Answer {
     pub(crate) status: u8,
     pub(crate) output: Vec<u8>,
     pub(crate) report: Vec<u8>,
-    /// What the place for reconstructions holds.
+    /// What the place for a file beside the output holds.
     pub(crate) recon: Vec<u8>,
     /// The name under which it is open.
     pub(crate) recon_name: Option<String>,

@@ -124,7 +124,7 @@ impl Case {
 
 impl Table {
     /// Takes a line of bytes: more of the last stream, or of what the last case says of input, output or the place for
-    /// reconstructions.
+    /// a file beside the output.
     fn take_bytes(&mut self, alloc: Global, key: &str, rest: &str) -> Result<(), Problem> {
         let bytes = bytes_of(alloc, &self.streams, rest)?;
         if key == "bytes" {

@@ -95,7 +95,7 @@ fn name_in(name: &Option<String>) -> Option<&str> {
     }
 }
 
-/// Whether the place for reconstructions is as it is wanted.
+/// Whether the place for a file beside the output is as it is wanted.
 fn is_recon(wanted: &Wanted, answer: &Answer) -> bool {
     answer.recon.as_slice() == wanted.recon.as_slice()
         && is_name(name_in(&wanted.recon_name), name_in(&answer.recon_name))
@@ -122,7 +122,7 @@ fn is_wanted(wanted: &Wanted, answer: &Answer) -> bool {
 }
 
 /// Whether a run of which a call failed gave what such a run may give: a read fault or a write fault with a prefix of the
-/// wanted output and of the wanted reconstructions. Where a report fails, the status is that of a refusal, or a write fault
+/// wanted output and of the wanted file beside it. Where a report fails, the status is that of a refusal, or a write fault
 /// after success, and a prefix of the line stands.
 fn is_wanted_at_a_fault(wanted: &Wanted, endpoint: Endpoint, call: u64, answer: &Answer) -> bool {
     let begun = wanted.output.as_slice().starts_with(&answer.output)
