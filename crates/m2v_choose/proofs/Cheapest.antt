@@ -1,5 +1,5 @@
 -- The least that a coding of a prediction scores.
-use Rattle.std.proofs.Common.{◌≡◌, ℕ, zero, suc, ◌+◌, ◌*◌, ◌^◌, ◌≤◌, ◌<◌, Bool, true, false, cond, inl, inr, List, [], ◌∷◌, filter, length, map, refl, ap, sym, ◌∙◌, subst, arith, ℤ}
+use Rattle.std.proofs.Common.{◌≡◌, ℕ, zero, suc, ◌+◌, ◌-◌, ◌*◌, ◌^◌, ◌≤◌, ◌<◌, Bool, true, false, cond, inl, inr, List, [], ◌∷◌, filter, length, map, refl, ap, sym, ◌∙◌, subst, arith, ℤ}
 use Rattle.std.specs.Prelude.{nat_lt, min, sum_by, slice_index, count_ones}
 use Rattle.std.specs.List.{range_with_len}
 use Rattle.std.proofs.Math.Nat.{mul-le-mul_left}
@@ -24,7 +24,7 @@ use Rattle.m2v_choose.specs.Candidates.{coded_by, samples_by, has_block}
 use Rattle.m2v_choose.specs.Choice.{bits_taken, score}
 use Rattle.m2v_choose.specs.declared.task.Task.{Task}
 use Rattle.m2v_choose.specs.declared.trial.Best.{Best}
-use Rattle.m2v_choose.specs.Trials.{AreSquares, References, decided, IsRated, Tried, Predicts, IsHeader, coded_least, four_each, block_squared, uncoded_squared, with_blocks, sends_code}
+use Rattle.m2v_choose.specs.Trials.{AreSquares, References, decided, IsRated, Tried, Predicts, IsHeader, coded_least, four_of, four_each, block_squared, uncoded_squared, with_blocks, sends_code}
 use Rattle.m2v_vlc.proofs.ValueLaws.{below, agree}
 use Rattle.m2v_choose.proofs.Sums.{sum_more}
 use Rattle.m2v_choose.proofs.Written.{coded_some, pattern_most}
@@ -35,9 +35,6 @@ use Rattle.m2v_macroblock.proofs.m2v_block.Shortest.{block_least}
 
 -- ---- blocks
 
-abbrev four : ℕ → ℕ → ℕ
-four pattern b = cond (is_coded pattern b) 4 0
-
 -- by the ones of the pattern
 all_four : below (λ p. 4 * count_ones p) 64 ≡ below four_each 64
 unfolding below four_each lib.Count.ones
@@ -46,9 +43,20 @@ all_four = refl
 pub ones_four : (p : ℕ) → p < 64 → 4 * count_ones p ≡ four_each p
 ones_four p most = agree (λ k. 4 * count_ones k) four_each 64 p all_four most
 
+one_four : (b : Bool) → cond b 4 0 ≤ 4
+one_four true = omega arith
+one_four false = omega arith
+
+pub four_most : (p : ℕ) → four_each p ≤ 24
+unfolding four_each
+four_most p =
+    let f = four_of p in
+    let least = λ (b : ℕ). one_four (is_coded p b) in
+    omega (arith, sum_more f 0, sum_more f 1, sum_more f 2, sum_more f 3, sum_more f 4, sum_more f 5, least 0, least 1, least 2, least 3, least 4, least 5)
+
 module _ (c : PictureContext) (st : SliceState) (m : MacroSyntax) (ls : List (List ℤ)) (other : m.kind.intra ≡ false) (own : m.pattern ≡ pattern_of ls)
     (whole : (b : ℕ) → b < 6 → length (block_levels ls b) ≡ 64) where
-  one_least : (b : ℕ) → b < 6 → four m.pattern b ≤ length (block_in_text c st (record { syntax = m; levels = ls }) b)
+  pub one_least : (b : ℕ) → b < 6 → four_of m.pattern b ≤ length (block_in_text c st (record { syntax = m; levels = ls }) b)
   unfolding block_in_text kind_for
   one_least b lt = elim (cases_Bool (is_coded m.pattern b)) [
     | inl on ↦
@@ -57,31 +65,18 @@ module _ (c : PictureContext) (st : SliceState) (m : MacroSyntax) (ls : List (Li
     | inr off ↦ rw off (omega arith)
   ]
 
-  blocks_least : sum_by (four m.pattern) (range_with_len 0 6) ≤ length (blocks_text c st (record { syntax = m; levels = ls }) 0 6)
-  blocks_least =
+  -- those from one on
+  pub rest_least : (k n : ℕ) → k + n ≡ 6 → sum_by (four_of m.pattern) (range_with_len 0 6)
+      ≤ sum_by (four_of m.pattern) (range_with_len 0 n) + length (blocks_text c st (record { syntax = m; levels = ls }) n (6 - n))
+  rest_least zero n e =
+      let end : n ≡ 6 = omega (arith, e) in
+      omega (arith, ap (λ (k : ℕ). sum_by (four_of m.pattern) (range_with_len 0 k)) end)
+  rest_least (suc k) n e =
       let text = block_in_text c st (record { syntax = m; levels = ls }) in
-      let f = four m.pattern in
-      omega (
-        arith,
-        left_length text 6 0 (omega arith),
-        left_length text 6 1 (omega arith),
-        left_length text 6 2 (omega arith),
-        left_length text 6 3 (omega arith),
-        left_length text 6 4 (omega arith),
-        left_length text 6 5 (omega arith),
-        one_least 0 (omega arith),
-        one_least 1 (omega arith),
-        one_least 2 (omega arith),
-        one_least 3 (omega arith),
-        one_least 4 (omega arith),
-        one_least 5 (omega arith),
-        sum_more f 0,
-        sum_more f 1,
-        sum_more f 2,
-        sum_more f 3,
-        sum_more f 4,
-        sum_more f 5,
-      )
+      omega (arith, rest_least k (n + 1) (omega (arith, e)), sum_more (four_of m.pattern) n, left_length text 6 n (omega (arith, e)), one_least n (omega (arith, e)))
+
+  blocks_least : sum_by (four_of m.pattern) (range_with_len 0 6) ≤ length (blocks_text c st (record { syntax = m; levels = ls }) 0 6)
+  blocks_least = omega (arith, rest_least 6 0 refl)
 
 -- ---- sums
 
@@ -95,12 +90,12 @@ lesser false n bit = omega arith
 
 lesser_all : (pattern bit : ℕ) (squares : ℕ → ℕ) (n : ℕ)
     → sum_by (λ b. min (8 * squares b) (bit * 4)) (range_with_len 0 n)
-    ≤ 8 * sum_by (λ b. cond (is_coded pattern b) 0 (squares b)) (range_with_len 0 n) + bit * sum_by (four pattern) (range_with_len 0 n)
+    ≤ 8 * sum_by (λ b. cond (is_coded pattern b) 0 (squares b)) (range_with_len 0 n) + bit * sum_by (four_of pattern) (range_with_len 0 n)
 lesser_all pattern bit squares zero = omega arith
 lesser_all pattern bit squares (suc n) =
     let f = λ (b : ℕ). min (8 * squares b) (bit * 4) in
     let u = λ (b : ℕ). cond (is_coded pattern b) 0 (squares b) in
-    let w = four pattern in
+    let w = four_of pattern in
     let parted : bit * (sum_by w (range_with_len 0 n) + w n) ≡ bit * sum_by w (range_with_len 0 n) + bit * w n = grind arith in
     omega (arith, sum_next f n, sum_next u n, ap (λ (k : ℕ). bit * k) (sum_next w n), parted, lesser (is_coded pattern n) (squares n) bit, lesser_all pattern bit squares n)
 
@@ -113,10 +108,10 @@ least_known bit n dct s p squares known =
 
 -- ---- scores
 
-known_length : (f : ℕ → List ℤ) (b : ℕ) → b < 6 → ((b : ℕ) → length (f b) ≡ 64) → length (block_levels (map f (range_with_len 0 6)) b) ≡ 64
+pub known_length : (f : ℕ → List ℤ) (b : ℕ) → b < 6 → ((b : ℕ) → length (f b) ≡ 64) → length (block_levels (map f (range_with_len 0 6)) b) ≡ 64
 known_length f b lt h = ap length (get_or-map-range_with_len f 0 6 b b [] lt (omega arith)) ∙ h b
 
-levels_long : (f : List ℤ) (kind : BlockKind) → length (levels_of f kind) ≡ 64
+pub levels_long : (f : List ℤ) (kind : BlockKind) → length (levels_of f kind) ≡ 64
 unfolding levels_of
 levels_long f kind = length-map (range_with_len 0 64) (level_at f kind)
 
@@ -133,14 +128,10 @@ module _ (r : References) (t : Task) (p : Prediction) (bare : MacroSyntax) (same
   as_coded = λ i. written (with_blocks (same i) (sends_code t.state.now k.q) k.q k.dct_field (pattern_of (levels_by (decided r t) (samples_by (decided r t) p) false k))) (levels_by (decided r t) (samples_by (decided r t) p) false k)
 
   module _ (n : ℕ) (header : IsHeader t bare n) (prediction : List ℕ) (samples : prediction ≡ samples_by (decided r t) p) (bytes : (i : ℕ) → get_or prediction i 0 < 2 ^ 8) where
-    -- by the blocks that are coded
-    scores_by : 0 < pattern_of (levels_by (decided r t) (samples_by (decided r t) p) false k)
-        → (2 * t.limits.now.q) ^ 2 * n
-        + ((2 * t.limits.now.q) ^ 2 * four_each (pattern_of (levels_by (decided r t) (samples_by (decided r t) p) false k))
-        + 8 * uncoded_squared (pattern_of (levels_by (decided r t) (samples_by (decided r t) p) false k)) (block_squared k.dct_field t.source.now.at prediction))
-        ≤ score (decided r t) (coded_by (decided r t) p k)
-    unfolding four_each bits_taken macroblock_text
-    scores_by some =
+    pub scores : 0 < pattern_of (levels_by (decided r t) (samples_by (decided r t) p) false k)
+        → coded_least ((2 * t.limits.now.q) ^ 2) n (block_squared k.dct_field t.source.now.at prediction) ≤ score (decided r t) (coded_by (decided r t) p k)
+    unfolding coded_least bits_taken macroblock_text uncoded_squared
+    scores some =
         let d = decided r t in
         let ls = levels_by d (samples_by d p) false k in
         let m = with_blocks bare (sends_code t.state.now k.q) k.q k.dct_field (pattern_of ls) in
@@ -166,14 +157,8 @@ module _ (r : References) (t : Task) (p : Prediction) (bare : MacroSyntax) (same
           ap (λ (z : ℕ). bit * z) (length-append before blocks),
           mul-le-mul_left bit long,
           mul-le-mul_left bit some_blocks,
+          lesser_all (pattern_of ls) bit squares 6,
         )
-
-    scores : 0 < pattern_of (levels_by (decided r t) (samples_by (decided r t) p) false k)
-        → coded_least ((2 * t.limits.now.q) ^ 2) n (block_squared k.dct_field t.source.now.at prediction) ≤ score (decided r t) (coded_by (decided r t) p k)
-    unfolding coded_least uncoded_squared four_each
-    scores some =
-        let ls = levels_by (decided r t) (samples_by (decided r t) p) false k in
-        omega (arith, scores_by some, lesser_all (pattern_of ls) ((2 * t.limits.now.q) ^ 2) (block_squared k.dct_field t.source.now.at prediction) 6)
 
     -- so it is left where that is no less than the best so far
     pub left : (best : Best) → IsRated (decided r t) best → best.below ≤ coded_least ((2 * t.limits.now.q) ^ 2) n (block_squared k.dct_field t.source.now.at prediction)
@@ -188,19 +173,3 @@ module _ (r : References) (t : Task) (p : Prediction) (bare : MacroSyntax) (same
             let least = scores some in
             subst (Tried (decided r t) best best) (sym (some_coded (coded_by (decided r t) p k) some))
             (kept (decided r t) (coded_by (decided r t) p k) best rated (omega (arith, low, least)))
-
-    -- and where its pattern is known
-    pub coded_left : (best : Best) → IsRated (decided r t) best → (ls : List (List ℤ)) → ls ≡ levels_by (decided r t) (samples_by (decided r t) p) false k → 0 < pattern_of ls
-        → best.below ≤ (2 * t.limits.now.q) ^ 2 * n
-        + ((2 * t.limits.now.q) ^ 2 * four_each (pattern_of ls) + 8 * uncoded_squared (pattern_of ls) (block_squared k.dct_field t.source.now.at prediction))
-        → Tried (decided r t) best best (filter has_block (coded_by (decided r t) p k ∷ []))
-    unfolding coded_by coded_syntax
-    coded_left best rated ls same some low =
-        let d = decided r t in
-        let own : pattern_of ls ≡ pattern_of (levels_by d (samples_by d p) false k) = ap pattern_of same in
-        let bit = (2 * t.limits.now.q) ^ 2 in
-        let squares = block_squared k.dct_field t.source.now.at prediction in
-        let points = λ (z : ℕ). bit * n + (bit * four_each z + 8 * uncoded_squared z squares) in
-        let some_own : 0 < pattern_of (levels_by d (samples_by d p) false k) = omega (arith, own, some) in
-        subst (Tried d best best) (sym (some_coded (coded_by d p k) some_own))
-        (kept d (coded_by d p k) best rated (omega (arith, low, ap points own, scores_by some_own)))

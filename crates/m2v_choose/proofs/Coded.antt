@@ -82,7 +82,7 @@ module _ (r : References) (t : Task) (p : Prediction) (bare : MacroSyntax) (same
       (made : transforms ≡ transforms_of t.source.now.at prediction dct)
       (known : kinds ≡ kind_for t.context.now false true q ∷ kind_for t.context.now false false q ∷ [])
       (levels : ls ≡ quantised_by transforms (kind_at kinds 0) (kind_at kinds 1)) where
-    pub levels_are : ls ≡ levels_by (decided r t) (samples_by (decided r t) p) false (record { q = q; dct_field = dct })
+    levels_are : ls ≡ levels_by (decided r t) (samples_by (decided r t) p) false (record { q = q; dct_field = dct })
     levels_are =
         levels ∙ (λ i. quantised_by (made i) (kind_at (known i) 0) (kind_at (known i) 1))
         ∙ ap (λ (x : List ℕ). quantised_by (transforms_of t.source.now.at x dct) (kind_for t.context.now false true q) (kind_for t.context.now false false q)) samples

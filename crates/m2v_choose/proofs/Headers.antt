@@ -1,6 +1,6 @@
--- The bits before the blocks of a macroblock that has a prediction: with coded blocks at least one more than without.
+-- The bits before the blocks of a macroblock that has a prediction, with coded blocks and without.
 use Rattle.std.proofs.Common.{◌≡◌, ℕ, zero, suc, ◌+◌, ◌≤◌, ◌<◌, Bool, true, false, ◌&&◌, ◌||◌, not, ◌⊎◌, inl, inr, [], ◌∷◌, ◌++◌, length, refl, ap, sym, ◌∙◌, subst, arith}
-use Rattle.std.specs.Prelude.{nat_le, nat_eq, if◌then◌else◌}
+use Rattle.std.specs.Prelude.{nat_le, nat_eq, cond, if◌then◌else◌}
 use Rattle.std.proofs.lemmas.Bool.{leb-true, eqb-true, cases_eq}
 use Rattle.std.proofs.lemmas.List.{length-append}
 use Rattle.m2v_bits.specs.Bits.{bits_of}
@@ -9,7 +9,7 @@ use Rattle.m2v_bits.proofs.Texts.{left_length}
 use Rattle.m2v_recon.specs.Macro.{is_coded}
 use Rattle.m2v_vlc.specs.declared.values.MbType.{MbType}
 use Rattle.m2v_vlc.specs.Codes.{code_of}
-use Rattle.m2v_vlc.specs.Tables.{type_p, type_p_code, type_b, type_b_code, block_pattern, pattern_code}
+use Rattle.m2v_vlc.specs.Tables.{block_pattern, pattern_code}
 use Rattle.m2v_vlc.specs.Values.{has_type_i, has_type_p, has_type_b}
 use Rattle.m2v_vlc.proofs.ValueLaws.{below, agree}
 use Rattle.m2v_macro.specs.declared.values.MacroSyntax.{MacroSyntax}
@@ -17,44 +17,19 @@ use Rattle.m2v_macro.specs.declared.values.SliceState.{SliceState}
 use Rattle.m2v_macro.specs.declared.values.PictureContext.{PictureContext}
 use Rattle.m2v_macro.specs.States.{after, is_field, pmv_before}
 use Rattle.m2v_macro.specs.Macros.{has_form, has_dct}
-use Rattle.m2v_macro.specs.Conditions.{IsMacro, has_type}
+use Rattle.m2v_macro.specs.Conditions.{IsMacro}
 use Rattle.m2v_macro.proofs.Types.{of_i, of_p, of_b}
 use Rattle.m2v_macro.specs.Texts.{macro_text, modes_text, directions_text, pattern_text, kind_text, increment_text, form_text, dct_text, quantiser_text, marker_text}
 use Rattle.m2v_macroblock.specs.Macroblocks.{Macroblock}
 use Rattle.m2v_macroblock.specs.Texts.{block_in_text, blocks_text, macroblock_text}
-use Rattle.m2v_choose.specs.Trials.{with_blocks}
+use Rattle.m2v_choose.specs.declared.task.Task.{Task}
+use Rattle.m2v_choose.specs.declared.bits.Headers.{Headers}
+use Rattle.m2v_choose.specs.Trials.{with_blocks, sends_code, has_types, shared_length, header_length, AreHeaders, IsHeader}
 
 -- ---- types
 
 abbrev pub bare_kind : Bool → Bool → MbType
 bare_kind f b = record { quant = false; forward = f; backward = b; pattern = false; intra = false }
-
-abbrev coded_kind : Bool → Bool → Bool → MbType
-coded_kind f b send = record { quant = send; forward = f; backward = b; pattern = true; intra = false }
-
-types_p : (f b send : Bool) → has_type_p (bare_kind f b) ≡ true → length (type_p_code (bare_kind f b)) ≤ length (type_p_code (coded_kind f b send)) + 2
-unfolding type_p code_of
-types_p true false true e = omega (arith, length-bits_of 3 1, length-bits_of 5 2)
-types_p true false false e = omega (arith, length-bits_of 3 1, length-bits_of 1 1)
-types_p true true send e = absurd cc
-types_p false true send e = absurd cc
-types_p false false send e = absurd cc
-
-types_b : (f b send : Bool) → has_type_b (bare_kind f b) ≡ true → length (type_b_code (bare_kind f b)) ≤ length (type_b_code (coded_kind f b send)) + 2
-unfolding type_b code_of
-types_b true false true e = omega (arith, length-bits_of 4 2, length-bits_of 6 3)
-types_b true false false e = omega (arith, length-bits_of 4 2, length-bits_of 4 3)
-types_b true true true e = omega (arith, length-bits_of 2 2, length-bits_of 5 2)
-types_b true true false e = omega (arith, length-bits_of 2 2, length-bits_of 2 3)
-types_b false true true e = omega (arith, length-bits_of 3 2, length-bits_of 6 2)
-types_b false true false e = omega (arith, length-bits_of 3 2, length-bits_of 3 3)
-types_b false false send e = absurd cc
-
--- a type with blocks has at most two bits fewer than the same one without
-kinds_near : (k : ℕ) (f b send : Bool) → (k ≡ 2) ⊎ (k ≡ 3) → has_type k (bare_kind f b) ≡ true → length (kind_text k (bare_kind f b)) ≤ length (kind_text k (coded_kind f b send)) + 2
-unfolding has_type kind_text
-kinds_near k f b send (inl two) has = rw two (types_p f b send (rw two at has))
-kinds_near k f b send (inr three) has = rw three (types_b f b send (rw three at has))
 
 -- ---- patterns
 
@@ -128,43 +103,66 @@ module _ (c : PictureContext) (st : SliceState) (m : MacroSyntax) (bare : IsBare
   unfolding pattern_text
   no_pattern = rw (bare.intra, bare.pattern) refl
 
-  module _ (send : Bool) (q : ℕ) (dct_field : Bool) (pattern : ℕ) where
-    coded_is : (with_blocks m send q dct_field pattern).kind ≡ coded_kind m.kind.forward m.kind.backward send
-    coded_is = λ i. record { quant = send; forward = m.kind.forward; backward = m.kind.backward; pattern = true; intra = bare.intra i }
+  -- without blocks it has its type besides what it shares with its codings
+  pub bare_length : length (macro_text c st m) ≡ shared_length c st m + length (kind_text c.kind m.kind)
+  unfolding shared_length
+  bare_length = omega (arith, text_length c st m, ap length no_dct, ap length no_quantiser, ap length no_pattern)
 
-    same_directions : directions_text c (pmv_before c st m.increment) (with_blocks m send q dct_field pattern) ≡ directions_text c (pmv_before c st m.increment) m
-    unfolding directions_text marker_text
-    same_directions = refl
+module _ (c : PictureContext) (st : SliceState) (m : MacroSyntax) (other : m.kind.intra ≡ false) (send : Bool) (q : ℕ) (dct_field : Bool) (pattern : ℕ) where
+  same_directions : directions_text c (pmv_before c st m.increment) (with_blocks m send q dct_field pattern) ≡ directions_text c (pmv_before c st m.increment) m
+  unfolding directions_text marker_text
+  same_directions = refl
 
-    same_form : form_text c (with_blocks m send q dct_field pattern).kind m.form ≡ form_text c m.kind m.form
-    unfolding form_text has_form
-    same_form = refl
+  same_form : form_text c (with_blocks m send q dct_field pattern).kind m.form ≡ form_text c m.kind m.form
+  unfolding form_text has_form
+  same_form = refl
 
-    pattern_is : pattern_text (with_blocks m send q dct_field pattern).kind pattern ≡ pattern_code pattern
-    unfolding pattern_text
-    pattern_is = rw bare.intra refl
+  pattern_is : pattern_text (with_blocks m send q dct_field pattern).kind pattern ≡ pattern_code pattern
+  unfolding pattern_text
+  pattern_is = rw other refl
 
-    -- with coded blocks it has at least one bit more
-    pub header_least : (c.kind ≡ 2) ⊎ (c.kind ≡ 3) → has_type c.kind m.kind ≡ true → 0 < pattern → pattern < 64
-        → length (macro_text c st m) + 1 ≤ length (macro_text c st (with_blocks m send q dct_field pattern))
-    header_least kind has some most =
-        let x = with_blocks m send q dct_field pattern in
-        let near = kinds_near c.kind m.kind.forward m.kind.backward send kind (subst (λ (k : MbType). has_type c.kind k ≡ true) kind_is has) in
-        omega (
-          arith,
-          text_length c st m,
-          text_length c st x,
-          near,
-          some_long pattern some most,
-          ap (λ (k : MbType). length (kind_text c.kind k)) kind_is,
-          ap (λ (k : MbType). length (kind_text c.kind k)) coded_is,
-          ap length no_dct,
-          ap length no_quantiser,
-          ap length no_pattern,
-          ap length same_directions,
-          ap length same_form,
-          ap length pattern_is,
-        )
+  dct_is : length (dct_text c (with_blocks m send q dct_field pattern).kind dct_field) ≡ cond (has_types c) 1 0
+  unfolding dct_text has_dct
+  dct_is = rw other (one (is_field c) c.extension.frame_pred_frame_dct)
+    where
+      one : (f p : Bool) → length (if not f && (not p && (false || true)) then dct_field ∷ [] else []) ≡ cond (not f && not p) 1 0
+      one true p = refl
+      one false true = refl
+      one false false = refl
+
+  quantiser_is : length (quantiser_text (with_blocks m send q dct_field pattern).kind (cond send q 0)) ≡ cond send 5 0
+  unfolding quantiser_text
+  quantiser_is = five send (cond send q 0)
+    where
+      five : (b : Bool) (n : ℕ) → length (if b then bits_of 5 n else []) ≡ cond b 5 0
+      five true n = length-bits_of 5 n
+      five false n = refl
+
+  -- what stands before the blocks of a coding
+  pub coded_length : length (macro_text c st (with_blocks m send q dct_field pattern)) ≡ header_length c st m send + length (pattern_code pattern)
+  unfolding header_length shared_length
+  coded_length =
+      omega (arith, text_length c st (with_blocks m send q dct_field pattern), ap length same_directions, ap length same_form, ap length pattern_is, dct_is, quantiser_is)
+
+-- the pattern of all six blocks
+pub all_six : length (pattern_code 63) ≡ 6
+unfolding code_of block_pattern bits_of
+all_six = refl
+
+pub header_known : (t : Task) (m : MacroSyntax) (h : Headers) → AreHeaders t m h → (send : Bool) → cond send h.sent h.kept ≡ header_length t.context.now t.state.now m send
+header_known t m h known true = known.sent
+header_known t m h known false = known.kept
+
+-- the least that stands before the blocks of any coding
+pub least_known : (t : Task) (m : MacroSyntax) (h : Headers) (n : ℕ) → m.kind.intra ≡ false → AreHeaders t m h → n ≤ h.kept + 3 → n ≤ h.sent + 3 → IsHeader t m n
+least_known t m h n other known kept sent = λ q dct_field pattern some most.
+    let send = sends_code t.state.now q in
+    let whole = coded_length t.context.now t.state.now m other send q dct_field pattern in
+    omega (arith, whole, header_known t m h known send, some_long pattern some most, by_send send)
+  where
+    by_send : (send : Bool) → n ≤ cond send h.sent h.kept + 3
+    by_send true = sent
+    by_send false = kept
 
 -- ---- without blocks
 

@@ -1,9 +1,10 @@
 -- Candidates that are tried: what their bits are counted by, what they score, and which is the better one.
-use Rattle.std.proofs.Common.{◌≡◌, ℕ, ◌+◌, ◌-◌, ◌*◌, ◌^◌, ◌<◌, ◌≤◌, Bool, true, false, ◌&&◌, not, All, List, [], ◌∷◌, ◌++◌, refl, ap, sym, ◌∙◌, subst, arith, ℤ, pos, neg_ℤ, ◌+ℤ◌}
+use Rattle.std.proofs.Common.{◌≡◌, ℕ, ◌+◌, ◌-◌, ◌*◌, ◌^◌, ◌<◌, ◌≤◌, Bool, true, false, ◌&&◌, not, All, List, [], ◌∷◌, ◌++◌, length, refl, ap, sym, ◌∙◌, subst, arith, ℤ, pos, neg_ℤ, ◌+ℤ◌}
 use Rattle.std.specs.Prelude.{nat_eq, nat_le, nat_lt, if◌then◌else◌, int_le}
 use Rattle.std.specs.List.{range_with_len, flat_map, list_all}
 use Rattle.std.proofs.lemmas.Int.{ints}
 use Rattle.std.proofs.lemmas.Bool.{and_parts, le-leb, lt-ltb, le-ltb, leb-true, ltb-true}
+use Rattle.std.proofs.lemmas.List.{length-append}
 use Rattle.std.proofs.lemmas.List.Sums.{AllPass-from_list_all}
 use Rattle.std.proofs.lemmas.List.Elements.{All-nil, All-cons, All-head, All-tail, All-weaker}
 use Rattle.m2v_quant.specs.declared.kind.Levels.{Levels}
@@ -20,7 +21,7 @@ use Rattle.m2v_recon.specs.Macro.{is_coded}
 use Rattle.m2v_recon.specs.Steps.{levels_of}
 use Rattle.m2v_macroblock.specs.Macroblocks.{Macroblock, kind_for, block_levels, predictor}
 use Rattle.m2v_macroblock.specs.Modes.{skipped_mode}
-use Rattle.m2v_macroblock.specs.Texts.{block_in_text, macroblock_text}
+use Rattle.m2v_macroblock.specs.Texts.{block_in_text, blocks_text, macroblock_text}
 use Rattle.m2v_macroblock.specs.Predictions.{sample_at}
 use Rattle.m2v_macroblock.specs.Conditions.{AreDc, IsMatrix, IsPicture}
 use Rattle.m2v_pred.specs.declared.block.Block16.{Block16}
@@ -124,6 +125,30 @@ same_text c st x =
     block_text (kind_for c intra (nat_lt block 4) quantiser) c.extension.intra_vlc_format (predictor dc x.levels block) (block_levels x.levels block)
     else []) (range_with_len 0 6))
     (same_dc intra (not st.first && not (nat_eq n 1)) st.dc (dc_reset c))
+
+-- without its blocks
+pub same_macro : (c : PictureContext) (st : SliceState) (m : MacroSyntax) → macro_text c (as_first c st m.increment) m ≡ macro_text c st m
+unfolding macro_text as_first pmv_before skips
+same_macro c st m = refl
+
+-- so its bits are those of its elements and of its blocks
+pub counted_is : (r : References) (t : Task) (m : MacroSyntax) (ls : List (List ℤ)) (header : ℕ) → IsTask t → m.increment ≡ t.increment → header ≡ length (macro_text t.context.now t.state.now m)
+    → header + length (blocks_text t.context.now (after t.context.now t.first m) (record { syntax = m; levels = ls }) 0 6) ≡ bits_taken (decided r t) (written m ls)
+unfolding bits_taken macroblock_text
+counted_is r t m ls header task own e =
+    let c = t.context.now in
+    let st = t.state.now in
+    let x : Macroblock = record { syntax = m; levels = ls } in
+    let first : t.first ≡ as_first c st m.increment = task.first ∙ ap (as_first c st) (sym own) in
+    let parts = λ (s : SliceState). length-append (macro_text c s m) (blocks_text c (after c s m) x 0 6) in
+    omega (
+      arith,
+      e,
+      ap length (same_macro c st m),
+      ap (λ (s : SliceState). length (blocks_text c (after c s m) x 0 6)) first,
+      parts (as_first c st m.increment),
+      ap length (same_text c st x),
+    )
 
 -- ---- scores
 

@@ -6,7 +6,7 @@ use Rattle.m2v_plane.specs.declared.planes.Lines.{Lines}
 use Rattle.m2v_plane.specs.declared.planes.Plane.{Plane}
 use Rattle.m2v_quant.specs.declared.kind.BlockKind.{BlockKind}
 use Rattle.m2v_quant.specs.declared.kind.Levels.{Levels}
-use Rattle.m2v_quant.specs.Kinds.{IsKind}
+use Rattle.m2v_quant.specs.Kinds.{IsKind, IsLevel}
 use Rattle.m2v_quant.specs.Quantiser.{levels_of as quantised}
 pub use Rattle.m2v_quant.specs.Quantiser.{is_empty}
 use Rattle.m2v_idct.specs.Forward.{forward_of}
@@ -19,7 +19,8 @@ use Rattle.m2v_macro.specs.declared.values.PictureContext.{PictureContext}
 use Rattle.m2v_macro.specs.States.{is_field, skips, pmv_before, dc_reset, after}
 use Rattle.m2v_macro.specs.Conditions.{IsMacro}
 use Rattle.m2v_macro.specs.Macros.{macro_of, no_vectors}
-use Rattle.m2v_macro.specs.Texts.{macro_text}
+use Rattle.m2v_vlc.specs.declared.values.MbType.{MbType}
+use Rattle.m2v_macro.specs.Texts.{macro_text, increment_text, kind_text, form_text, directions_text}
 use Rattle.m2v_macroblock.specs.Modes.{mode_of, zero_motion}
 use Rattle.m2v_macro.specs.declared.values.MacroSyntax.{MacroSyntax}
 use Rattle.m2v_macro.specs.declared.values.Selected.{Selected}
@@ -28,7 +29,7 @@ use Rattle.m2v_vector.specs.Predictors.{zeros}
 use Rattle.m2v_pred.specs.declared.mode.MbPlace.{MbPlace}
 use Rattle.m2v_pred.specs.Vectors.{IsPlace, IsInside, HoldsRead}
 use Rattle.m2v_pred.specs.Predicted.{block_by, predicted}
-use Rattle.m2v_macroblock.specs.Macroblocks.{Macroblock, macroblock_of, kind_for}
+use Rattle.m2v_macroblock.specs.Macroblocks.{Macroblock, macroblock_of, kind_for, block_levels}
 use Rattle.m2v_macroblock.specs.Texts.{blocks_text}
 use Rattle.m2v_macroblock.specs.Conditions.{AreDc}
 use Rattle.m2v_macroblock.specs.Predictions.{View, prediction_of, sample_at}
@@ -39,11 +40,12 @@ use Rattle.m2v_choose.specs.declared.trial.Best.{Best}
 use Rattle.m2v_choose.specs.declared.vectors.FieldVector.{FieldVector}
 use Rattle.m2v_choose.specs.declared.vectors.Vectors.{Vectors}
 use Rattle.m2v_choose.specs.declared.task.Task.{Task}
+use Rattle.m2v_choose.specs.declared.bits.Headers.{Headers}
 use Rattle.m2v_choose.specs.declared.coding.Uncoded.{Uncoded}
 use Rattle.m2v_choose.specs.declared.intra.Sums.{Sums}
 use Rattle.m2v_choose.specs.declared.scratch.FirstTransforms.{FirstTransforms}
 use Rattle.m2v_choose.specs.declared.scratch.BothTransforms.{BothTransforms}
-use Rattle.m2v_choose.specs.Decisions.{Decision, Candidate, Prediction, has_dct_type, place_of, increment_of, block_place, differences, written, no_levels}
+use Rattle.m2v_choose.specs.Decisions.{Decision, Candidate, Prediction, pattern_of, has_dct_type, place_of, increment_of, block_place, differences, written, no_levels}
 use Rattle.m2v_choose.specs.Candidates.{plain_form, plain_direction, field_direction, predictions_by, zero_prediction}
 use Rattle.m2v_choose.specs.Choice.{bits_taken, samples_of, score, fits, square_at, squared}
 use Rattle.m2v_choose.specs.Own.{IsOwn, IsCode, IsOwnState, AreLimits}
@@ -234,6 +236,39 @@ abbrev pub IsHeader : Task → MacroSyntax → ℕ → Type 0
 IsHeader t m n = (q : ℕ) (dct_field : Bool) (pattern : ℕ) → 0 < pattern → pattern < 64
     → n ≤ length (macro_text t.context.now t.state.now (with_blocks m (sends_code t.state.now q) q dct_field pattern))
 
+-- the type of a macroblock that has a prediction, with coded blocks
+abbrev pub coded_kind : MbType → Bool → MbType
+coded_kind v send = record { quant = send; forward = v.forward; backward = v.backward; pattern = true; intra = v.intra }
+
+-- so many bits it has with blocks and without: its address, its motion type and its vectors
+unfoldable pub shared_length : PictureContext → SliceState → MacroSyntax → ℕ
+shared_length c st m = length (increment_text m.increment) + length (form_text c m.kind m.form) + length (directions_text c (pmv_before c st m.increment) m)
+
+-- and so many before its pattern
+unfoldable pub header_length : PictureContext → SliceState → MacroSyntax → Bool → ℕ
+header_length c st m send = shared_length c st m + length (kind_text c.kind (coded_kind m.kind send)) + cond (has_types c) 1 0 + cond send 5 0
+
+-- these are counted
+pub record AreHeaders (t : Task) (m : MacroSyntax) (h : Headers) : Type 0 where
+  pub kept : h.kept ≡ header_length t.context.now t.state.now m false
+  pub sent : h.sent ≡ header_length t.context.now t.state.now m true
+  pub most_kept : h.kept ≤ 2 ^ 22
+  pub most_sent : h.sent ≤ 2 ^ 22
+
+-- four bits of a coded block, and of each one
+abbrev pub four_of : ℕ → ℕ → ℕ
+four_of pattern b = cond (is_coded pattern b) 4 0
+
+unfoldable pub four_each : ℕ → ℕ
+four_each pattern = sum_by (four_of pattern) (range_with_len 0 6)
+
+-- these are the levels of a macroblock that isn't intra
+pub record AreCoded (m : MacroSyntax) (levels : List Levels) : Type 0 where
+  pub other : m.kind.intra ≡ false
+  pub pattern : m.pattern ≡ pattern_of (levels_of levels)
+  pub within : All (λ (l : Levels). All IsLevel l.at) levels
+  pub long : (b : ℕ) → b < 6 → length (block_levels (levels_of levels) b) ≡ 64
+
 -- so many bits a prediction takes without blocks, where it may be without
 pub record IsAlone (t : Task) (m : MacroSyntax) (alone : Option ℕ) : Type 0 where
   pub macro : is_some alone ≡ true → IsMacro t.context.now t.first m
@@ -245,10 +280,6 @@ pub record IsAlone (t : Task) (m : MacroSyntax) (alone : Option ℕ) : Type 0 wh
 unfoldable pub coded_least : ℕ → ℕ → (ℕ → ℕ) → ℕ
 coded_least bit header squares = bit * header + sum_by (λ b. min (8 * squares b) (bit * 4)) (range_with_len 0 6)
 
--- four bits of each coded block
-unfoldable pub four_each : ℕ → ℕ
-four_each pattern = sum_by (λ b. cond (is_coded pattern b) 4 0) (range_with_len 0 6)
-
 -- so much at least a prediction scores with coded blocks, by a DCT type
 pub record IsLeast (t : Task) (plain : Uncoded) (dct_field : Bool) (least : ℕ) : Type 0 where
   pub header : ℕ
@@ -256,13 +287,13 @@ pub record IsLeast (t : Task) (plain : Uncoded) (dct_field : Bool) (least : ℕ)
   pub value : least ≡ coded_least ((2 * t.limits.now.q) ^ 2) header (block_squared dct_field t.source.now.at plain.prediction.now.at)
 
 -- the squares of its blocks are known, and the least that it scores with coded blocks: by DCT type 0, and by DCT type 1 where
--- the picture has it; and so many bits at least stand before these
+-- the picture has it; and so many bits stand before the patterns of its codings
 pub record IsMeasured (t : Task) (plain : Uncoded) : Type 0 where
   pub frame : AreSquares false t.source.now.at plain.prediction.now.at plain.frame.now
   pub field : has_types t.context.now ≡ true → AreSquares true t.source.now.at plain.prediction.now.at plain.field.now
   pub least : IsLeast t plain false plain.frame_least
   pub field_least : has_types t.context.now ≡ true → IsLeast t plain true plain.field_least
-  pub header : IsHeader t plain.bare.now plain.header
+  pub headers : AreHeaders t plain.bare.now plain.headers
 
 -- ---- intra macroblocks
 

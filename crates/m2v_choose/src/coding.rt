@@ -6,8 +6,9 @@ ghost use Rattle.m2v_macro.specs.Macros.{no_form as no_form_of};
 ghost use Rattle.m2v_choose.specs.Decisions.{Prediction, uncoded_syntax, intra_syntax as intra_syntax_of};
 ghost use Rattle.m2v_choose.specs.Candidates.{second_q as second_q_of, codings_at, codings, samples_by, coded_by, has_block, intra_by};
 ghost use Rattle.m2v_choose.specs.Own.{IsCode};
-ghost use Rattle.m2v_choose.specs.Trials.{References, decided, IsTask, IsRated, Tried, CanCode, has_types, AreSquares, IsMeasured, block_squared, coded_least, four_each as four_each_of, uncoded_squared, sends_code, with_blocks as with_blocks_of, transforms_of, AreFar};
+ghost use Rattle.m2v_choose.specs.Trials.{References, decided, IsTask, IsRated, Tried, CanCode, has_types, AreSquares, IsMeasured, block_squared, coded_least, uncoded_squared, sends_code, with_blocks as with_blocks_of, transforms_of, AreFar};
 
+use crate::bits::{Headers, bits_before};
 use crate::blocks::{farthest, quantise_blocks, reaches, transform, transform_by_fields};
 use crate::scratch::{BothTransforms, CodingScratch};
 use crate::squares::{least_blocks, part_squares_by_fields, uncoded_squares};
@@ -33,8 +34,8 @@ pub struct Uncoded<'a> {
     pub frame_least: u64,
     /// And by DCT type 1, where the picture has it.
     pub field_least: u64,
-    /// At least so many bits stand before its coded blocks.
-    pub header: u32,
+    /// So many bits stand before the pattern of its codings.
+    pub headers: Headers,
 }
 
 /// The transforms of the six blocks by a DCT type.
@@ -204,26 +205,6 @@ pub fn least_score(task: &Task, squares: &[u32; 6], header: u32) -> u64
     bit_cost(task.limits, header) + least_blocks(squares, bit_cost(task.limits, 4))
 }
 
-/// At least so many bits the coded blocks of a pattern take: four each.
-#[inline(always)]
-fn four_each(pattern: u8) -> u32
-    requires { pattern < 64 }
-    ensures { result ≡ four_each_of pattern }
-{
-    4 * pattern.count_ones()
-}
-
-/// At least so much a coding scores: of its blocks these are coded, and `still` are the squares of the others.
-#[inline(always)]
-fn least_coded(task: &Task, header: u32, pattern: u8, still: u32) -> u64
-    requires { pattern < 64 }
-    ensures { result ≡ (2 * task.now.limits.now.q) ^ 2 * header
-        + ((2 * task.now.limits.now.q) ^ 2 * four_each_of pattern + 8 * still) }
-{
-    let blocks = bit_cost(task.limits, four_each(pattern)) + 8 * u64::from(still);
-    bit_cost(task.limits, header) + blocks
-}
-
 /// The least that a prediction scores with coded blocks, by a DCT type.
 #[inline(always)]
 fn least_of(plain: &Uncoded, dct_field: bool) -> u64
@@ -318,13 +299,11 @@ impl Best {
         if pattern == 0 {
             return;
         }
-        are_bytes(&plain.prediction.at);
+        let send = sends(task, q);
+        let syntax = with_blocks(plain.bare, send, q, dct_field, pattern);
+        let header = bits_before(&plain.headers, send, pattern);
         let still = still_squares(task, plain, dct_field, pattern);
-        if least_coded(task, plain.header, pattern, still) >= self.below {
-            return;
-        }
-        let syntax = with_blocks(plain.bare, sends(task, q), q, dct_field, pattern);
-        self.try_written(task, &syntax, room, plain.prediction, still);
+        self.try_written(task, &syntax, room, plain.prediction, header, still);
     }
 
     /// Tries a prediction by a quantiser, with both DCT types where the picture has them.

@@ -2,6 +2,7 @@
 //! least score among those that are short enough. Definitions, with the laws that hold of them.
 #![tactic(auto)]
 
+mod bits;
 mod blocks;
 mod choice;
 mod coding;

@@ -8,13 +8,14 @@ ghost use Rattle.m2v_macroblock.specs.Predictions.{prediction_of};
 ghost use Rattle.m2v_choose.specs.Decisions.{Prediction, uncoded_syntax, written, no_levels as no_levels_of};
 ghost use Rattle.m2v_choose.specs.Candidates.{prediction, predictions_by, samples_by, by_prediction};
 ghost use Rattle.m2v_choose.specs.Choice.{squared as squared_of};
-ghost use Rattle.m2v_choose.specs.Trials.{IsMeasured, IsHeader, IsAlone, coded_least, has_types, References, decided, references_of, IsTask, IsRead, IsRated, Tried, Predicts, CanCode, CanPredict, CanTry, direction_by, moving_syntax as moving_syntax_of, place_for};
+ghost use Rattle.m2v_choose.specs.Trials.{IsMeasured, IsAlone, coded_least, shared_length, has_types, References, decided, references_of, IsTask, IsRead, IsRated, Tried, Predicts, CanCode, CanPredict, CanTry, direction_by, moving_syntax as moving_syntax_of, place_for};
 
+use crate::bits::{bare_bits, headers_of, least_header, shared_bits};
 use crate::coding::{Uncoded, field_squares, has_dct_type, least_score, sends, with_blocks};
 use crate::scratch::{CodingScratch, TrialScratch};
 use crate::squares::{part_squares, uncoded_squares};
 use crate::task::Task;
-use crate::trial::{Best, bits_of, no_levels};
+use crate::trial::{Best, no_levels};
 use crate::vectors::{FieldVector, Vectors, no_vector, place_of};
 use m2v_macro::MacroSyntax;
 use m2v_macroblock::mode;
@@ -89,37 +90,22 @@ pub fn predict_moving<V: RefView>(
     predict_in(forward, backward, &mode, place_of(task), second, out);
 }
 
-/// What is counted of a prediction before it is transformed.
-#[derive(Clone, Copy)]
-struct Counted {
-    /// Its bits without blocks, where it may be without.
-    alone: Option<u32>,
-    /// At least so many bits stand before its blocks.
-    header: u32,
-}
-
-/// Counts the bits of a prediction without blocks, where it may be without. With coded blocks it has at least one more before
-/// them.
-fn count_alone(task: &Task, bare: &MacroSyntax, uncoded: bool) -> Counted
+/// The bits of a prediction without blocks, where it may be without: `shared` it has with blocks too.
+#[inline(always)]
+fn count_alone(task: &Task, bare: &MacroSyntax, shared: u32, uncoded: bool) -> Option<u32>
     requires task { IsTask task.now }
     requires code { CanCode task.now bare.now }
     requires stands { uncoded ≡ true → IsMacro task.now.context.now task.now.first bare.now }
     requires pattern { bare.now.pattern ≡ 0 }
-    ensures some { is_some result.alone ≡ uncoded }
-    ensures alone { IsAlone task.now bare.now result.alone }
-    ensures header { IsHeader task.now bare.now result.header }
+    requires value { shared ≡ shared_length task.now.context.now task.now.state.now bare.now }
+    requires most { shared ≤ 2 ^ 21 }
+    ensures some { is_some result ≡ uncoded }
+    ensures alone { IsAlone task.now bare.now result }
 {
     if !uncoded {
-        return Counted {
-            alone: None,
-            header: 0,
-        };
+        return None;
     }
-    let bits = bits_of(task, bare, no_levels());
-    Counted {
-        alone: Some(bits),
-        header: bits + 1,
-    }
+    Some(bare_bits(task, bare, shared))
 }
 
 /// The least that a prediction scores with coded blocks by DCT type 1, where the picture has it.
@@ -209,7 +195,10 @@ impl Best {
         let (mut frame, mut field) = ([0; 6], [0; 6]);
         part_squares(task.source, prediction, &mut frame);
         field_squares(task, prediction, &frame, &mut field);
-        let Counted { alone, header } = count_alone(task, bare, uncoded);
+        let shared = shared_bits(task, bare);
+        let headers = headers_of(task, bare, shared);
+        let header = least_header(task, bare, &headers);
+        let alone = count_alone(task, bare, shared, uncoded);
         let plain = Uncoded {
             bare,
             prediction,
@@ -217,7 +206,7 @@ impl Best {
             field: &field,
             frame_least: least_score(task, &frame, header),
             field_least: field_least(task, &field, header),
-            header,
+            headers,
         };
         self.try_predicted(task, &plain, alone, coding);
     }

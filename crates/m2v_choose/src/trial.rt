@@ -1,6 +1,7 @@
 //! The best candidate of a macroblock so far, and candidates that are tried against it.
 ghost use Rattle.std.specs.Prelude.{◌≡◌, ◌≢◌, ℕ, ◌+◌, ◌*◌, ◌^◌, ◌≤◌, ◌<◌, ◌&&◌, ◌⊎◌, All, List, true, cond, slice_index, nat_le, if◌then◌else◌, [], ◌∷◌, false, length, replicate};
 ghost use Rattle.m2v_macro.specs.Conditions.{IsMacro};
+ghost use Rattle.m2v_macro.specs.Texts.{macro_text};
 ghost use Rattle.m2v_macroblock.specs.Macroblocks.{macroblock_of};
 ghost use Rattle.m2v_macroblock.specs.Modes.{skipped_mode};
 ghost use Rattle.m2v_quant.specs.Kinds.{IsKind, IsLevel};
@@ -10,8 +11,9 @@ ghost use Rattle.m2v_pred.specs.Predicted.{predicted, block_by};
 ghost use Rattle.m2v_choose.specs.Decisions.{place_of, skipped, written, no_levels as no_levels_of};
 ghost use Rattle.m2v_choose.specs.Choice.{squared as squared_of, bits_taken, score};
 ghost use Rattle.m2v_choose.specs.Laws.{IsWritable};
-ghost use Rattle.m2v_choose.specs.Trials.{decided, References, IsTask, IsRated, Tried, Predicts, candidate_of, rebuilt_by, block_squared as block_squared_of, AreAlike, coded_squared, uncoded_squared, rebuilt_with};
+ghost use Rattle.m2v_choose.specs.Trials.{AreCoded, decided, References, IsTask, IsRated, Tried, Predicts, candidate_of, rebuilt_by, block_squared as block_squared_of, AreAlike, coded_squared, uncoded_squared, rebuilt_with};
 
+use crate::bits::bits_until;
 use crate::squares::{block_squared, squared};
 use crate::task::Task;
 use crate::values::{Choice, Limits};
@@ -315,18 +317,23 @@ impl Best {
         self.below = score;
     }
 
-    /// Tries a written candidate, whose prediction has these samples. `still` are the squares of its blocks without levels,
-    /// whose samples are the prediction's.
+    /// Tries a written candidate that isn't intra, whose prediction has these samples. So many bits stand before its blocks,
+    /// and `still` are the squares of its blocks without levels, whose samples are the prediction's.
     pub fn try_written(
         &mut self,
         task: &Task,
         syntax: &MacroSyntax,
         levels: &[Levels; 6],
         prediction: &Block16,
+        header: u32,
         still: u32,
     )
         requires task { IsTask task.now }
         requires increment { syntax.now.increment ≡ task.now.increment }
+        requires coded { AreCoded syntax.now levels.now }
+        requires header { header
+            ≡ length (macro_text task.now.context.now task.now.state.now syntax.now) }
+        requires short { header ≤ 2 ^ 23 }
         requires writable { IsWritable task.now.context.now task.now.first
             (macroblock_of syntax.now levels.now) }
         requires still { still ≡ uncoded_squared syntax.now.pattern (block_squared_of
@@ -337,7 +344,12 @@ impl Best {
             → Tried (decided r task.now) self.old self.new
             (written syntax.now (levels_of levels.now) ∷ []) }
     {
-        let bits = bits_of(task, syntax, levels);
+        are_bytes(&prediction.at);
+        let limit = self.below.saturating_sub(8 * u64::from(still));
+        let bits = bits_until(task, syntax, levels, header, limit);
+        if bit_cost(task.limits, bits) >= limit {
+            return;
+        }
         self.try_counted(task, syntax, levels, bits, prediction, still);
     }
 

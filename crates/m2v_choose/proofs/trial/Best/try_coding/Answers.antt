@@ -1,20 +1,25 @@
 use Rattle.std.proofs.lemmas.List.Elements.{All-map}
 use Rattle.m2v_quant.specs.Kinds.{IsLevel}
 use Rattle.m2v_quant.specs.declared.kind.Levels.{Levels}
-use Rattle.std.proofs.Common.{true, false, ℕ, ◌+◌, ◌*◌, ◌^◌, All, [], ◌∷◌, Bool, ◌≡◌, ◌<◌, refl, ap, sym, ◌∙◌, subst, arith}
+use Rattle.std.proofs.Common.{true, false, ℕ, ◌+◌, ◌*◌, All, List, ℤ, length, [], ◌∷◌, Bool, ◌≡◌, ◌<◌, refl, ap, sym, ◌∙◌, subst, arith}
 use Rattle.m2v_recon.specs.Steps.{levels_of}
 use Rattle.m2v_choose.specs.Decisions.{written}
 use Rattle.m2v_macro.specs.declared.values.MacroSyntax.{MacroSyntax}
 use Rattle.m2v_choose.specs.Decisions.{pattern_of}
 use Rattle.m2v_choose.specs.Laws.{IsWritable}
-use Rattle.m2v_choose.specs.Trials.{decided, Tried, four_each, block_squared, uncoded_squared, with_blocks, sends_code, quantised_by, Predicts}
+use Rattle.m2v_choose.specs.Trials.{decided, Tried, block_squared, uncoded_squared, with_blocks, sends_code, quantised_by, Predicts}
 use Rattle.std.specs.Prelude.{slice_index_or, unsigned_abs}
 use Rattle.m2v_idct.specs.Block.{nth}
-use Rattle.m2v_macroblock.specs.Macroblocks.{kind_for}
+use Rattle.m2v_macroblock.specs.Macroblocks.{kind_for, block_levels}
 use Rattle.m2v_choose.proofs.Empties.{none_reached, none_there}
 use Rattle.m2v_choose.proofs.Tried.{own_picture}
-use Rattle.m2v_choose.proofs.Cheapest.{coded_left}
-use Rattle.m2v_choose.proofs.Coded.{coded_writable, kinds_plain, predicts, levels_are, coding_none, coding_some}
+use Rattle.m2v_vlc.specs.Tables.{pattern_code}
+use Rattle.m2v_macro.specs.Texts.{macro_text}
+use Rattle.m2v_quant.specs.Quantiser.{levels_of as quantised}
+use Rattle.m2v_recon.specs.Macro.{kind_of, kind_at}
+use Rattle.m2v_choose.proofs.Cheapest.{known_length, levels_long}
+use Rattle.m2v_choose.proofs.Headers.{header_known, coded_length}
+use Rattle.m2v_choose.proofs.Coded.{coded_writable, kinds_plain, predicts, coding_none, coding_some}
 use Rattle.m2v_choose.proofs.trial.Best.try_coding.Goals as goal
 
 pub kinds-kinds-requires-clause-picture : goal.kinds-kinds-requires-clause-picture
@@ -51,25 +56,6 @@ returns-then-pattern-eq0 c = record {
       samples made c.kinds-kinds.ensures.value c.quantise_blocks-pattern.ensures.value (sym c.quantise_blocks-pattern.ensures.pattern ∙ c.if-pattern-eq0.true) c.args.self.now rated;
 }
 
-pub returns-then-least_coded-self : goal.returns-then-least_coded-self
-returns-then-least_coded-self c = record {
-  tried = λ r p same samples made rated.
-      let t = c.args.task.now in
-      let q = c.args.q in
-      let ls = levels_of c.quantise_blocks-pattern.new.out in
-      let pattern = c.quantise_blocks-pattern.result in
-      let bare = c.args.plain.now.bare.now in
-      let prediction = c.args.plain.now.prediction.now.at in
-      let bit = (2 * t.limits.now.q) ^ 2 in
-      let n = c.args.plain.now.header in
-      let own = c.quantise_blocks-pattern.ensures.pattern in
-      let points = λ (z : ℕ). bit * n + (bit * four_each z + 8 * uncoded_squared z (block_squared c.args.dct_field t.source.now.at prediction)) in
-      coded_left r t p bare same c.requires.bare.other (record { q = q; dct_field = c.args.dct_field }) n c.requires.measured.header prediction samples c.are_bytes.ensures c.args.self.now rated ls
-      (levels_are r t p bare same prediction c.args.transforms.now.at.now ls q c.args.dct_field c.kinds-kinds.result samples made c.kinds-kinds.ensures.value c.quantise_blocks-pattern.ensures.value)
-      (omega (arith, c.if-pattern-eq0.false, own))
-      (omega (arith, c.if-least_coded-self.true, c.least_coded.ensures, c.still_squares-still.ensures.value, ap points own));
-}
-
 pub try_written-requires-clause-writable : goal.try_written-requires-clause-writable
 try_written-requires-clause-writable c =
     let t = c.args.task.now in
@@ -77,12 +63,43 @@ try_written-requires-clause-writable c =
     let ls = levels_of c.quantise_blocks-pattern.new.out in
     let pattern = c.quantise_blocks-pattern.result in
     let m = with_blocks c.args.plain.now.bare.now (sends_code t.state.now q) q c.args.dct_field pattern in
-    let same : c.with_blocks-syntax.result ≡ m = c.with_blocks-syntax.ensures ∙ ap (λ (b : Bool). with_blocks c.args.plain.now.bare.now b q c.args.dct_field pattern) c.sends.ensures in
+    let same : c.with_blocks-syntax.result ≡ m = c.with_blocks-syntax.ensures ∙ ap (λ (b : Bool). with_blocks c.args.plain.now.bare.now b q c.args.dct_field pattern) c.sends-send.ensures in
     let some : 0 < pattern = omega (arith, c.if-pattern-eq0.false) in
     let within = All-map (All IsLevel) (λ (l : Levels). l.at) c.quantise_blocks-pattern.new.out c.quantise_blocks-pattern.ensures.levels in
     subst (λ (x : MacroSyntax). IsWritable t.context.now t.first (record { syntax = x; levels = ls })) (sym same)
     (coded_writable t.context.now t.first m ls c.requires.bare.other c.quantise_blocks-pattern.ensures.pattern within
     (c.requires.bare.macro q c.args.dct_field pattern c.requires.q c.requires.dct some c.quantise_blocks-pattern.ensures.most))
+
+pub try_written-requires-clause-coded : goal.try_written-requires-clause-coded
+unfolding quantised_by
+try_written-requires-clause-coded c =
+    let ts = c.args.transforms.now.at.now in
+    let kinds = c.kinds-kinds.result in
+    let ls = levels_of c.quantise_blocks-pattern.new.out in
+    let g = λ (b : ℕ). quantised (slice_index_or ts b []) (kind_of (kind_at kinds 0) (kind_at kinds 1) b) in
+    record {
+      other = ap (λ (x : MacroSyntax). x.kind.intra) c.with_blocks-syntax.ensures ∙ c.requires.bare.other;
+      pattern = ap (λ (x : MacroSyntax). x.pattern) c.with_blocks-syntax.ensures ∙ c.quantise_blocks-pattern.ensures.pattern;
+      within = c.quantise_blocks-pattern.ensures.levels;
+      long = λ b lt.
+          subst (λ (xs : List (List ℤ)). length (block_levels xs b) ≡ 64) (sym c.quantise_blocks-pattern.ensures.value)
+          (known_length g b lt (λ k. levels_long (slice_index_or ts k []) (kind_of (kind_at kinds 0) (kind_at kinds 1) k)));
+    }
+
+pub try_written-requires-clause-header : goal.try_written-requires-clause-header
+try_written-requires-clause-header c =
+    let t = c.args.task.now in
+    let bare = c.args.plain.now.bare.now in
+    let headers = c.args.plain.now.headers in
+    let pattern = c.quantise_blocks-pattern.result in
+    let send = c.sends-send.result in
+    c.bits_before-header.ensures.value
+    ∙ ap (λ (n : ℕ). n + length (pattern_code pattern)) (header_known t bare headers c.requires.measured.headers send)
+    ∙ sym (coded_length t.context.now t.state.now bare c.requires.bare.other send c.args.q c.args.dct_field pattern)
+    ∙ ap (λ (x : MacroSyntax). length (macro_text t.context.now t.state.now x)) (sym c.with_blocks-syntax.ensures)
+
+pub bits_before-header-requires : goal.bits_before-header-requires
+bits_before-header-requires c = record { kept = c.requires.measured.headers.most_kept; sent = c.requires.measured.headers.most_sent }
 
 pub try_written-requires-clause-still : goal.try_written-requires-clause-still
 try_written-requires-clause-still c =
@@ -99,7 +116,7 @@ returns c = record {
       let ls = levels_of c.quantise_blocks-pattern.new.out in
       let pattern = c.quantise_blocks-pattern.result in
       let full : c.with_blocks-syntax.result ≡ with_blocks c.args.plain.now.bare.now (sends_code t.state.now q) q dct (pattern_of ls) =
-      c.with_blocks-syntax.ensures ∙ (λ i. with_blocks c.args.plain.now.bare.now (c.sends.ensures i) q dct (c.quantise_blocks-pattern.ensures.pattern i)) in
+      c.with_blocks-syntax.ensures ∙ (λ i. with_blocks c.args.plain.now.bare.now (c.sends-send.ensures i) q dct (c.quantise_blocks-pattern.ensures.pattern i)) in
       let some : 0 < pattern_of ls = omega (arith, c.if-pattern-eq0.false, c.quantise_blocks-pattern.ensures.pattern) in
       let told : Predicts r t c.with_blocks-syntax.result c.args.plain.now.prediction.now.at =
       subst (λ (x : MacroSyntax). Predicts r t x c.args.plain.now.prediction.now.at) (sym full) (predicts r t p c.args.plain.now.bare.now same c.args.plain.now.prediction.now.at q dct (pattern_of ls) samples) in
