@@ -1,5 +1,5 @@
 -- Where no coefficient reaches twice the quantiser code, no block of a predicted macroblock has a level.
-use Rattle.std.proofs.Common.{◌≡◌, ℕ, ◌+◌, ◌*◌, ◌/◌, ◌<◌, Bool, true, false, List, [], ◌∷◌, map, replicate, refl, ap, ◌∙◌, arith, ℤ, pos, negsuc}
+use Rattle.std.proofs.Common.{◌≡◌, ℕ, ◌+◌, ◌*◌, ◌/◌, ◌<◌, Bool, true, false, List, [], ◌∷◌, map, replicate, refl, ap, sym, inl, inr, ◌∙◌, arith, ℤ, pos, negsuc}
 use Rattle.std.specs.Prelude.{min, nat_lt, slice_index, slice_index_or, unsigned_abs}
 use Rattle.std.specs.List.{range_with_len}
 use Rattle.std.proofs.Math.Nat.{div-eq_of_lt}
@@ -16,7 +16,7 @@ use Rattle.m2v_recon.specs.Macro.{kind_of, kind_at}
 use Rattle.m2v_macroblock.specs.Macroblocks.{kind_for}
 use Rattle.m2v_choose.specs.Decisions.{pattern_of}
 use Rattle.m2v_choose.specs.Own.{IsOwn}
-use Rattle.m2v_choose.specs.Trials.{quantised_by}
+use Rattle.m2v_choose.specs.Trials.{quantised_by, HaveSame}
 use Rattle.m2v_choose.proofs.Chosen.{either}
 
 -- the places of a scan lie in the block, where the matrix has 16
@@ -91,3 +91,16 @@ module _ (c : PictureContext) (q : ℕ) (own : IsOwn c) where
       fill_by_all (λ (b : ℕ). no_levels_here) (map g (range_with_len 0 6)) 6 [] (length-map-range_with_len g 0 6)
       (λ b lt. get_or-map-range_with_len g 0 6 b b [] lt (omega arith) ∙ each b lt) in
       ap pattern_of all ∙ nothing
+
+  -- and coefficients that are the same, or lie that near to 0, have the same levels
+  pub levels_same : (kinds : List BlockKind) → kinds ≡ kind_for c false true q ∷ kind_for c false false q ∷ [] → (fs gs : List (List ℤ)) → HaveSame (2 * q) fs gs
+      → quantised_by fs (kind_at kinds 0) (kind_at kinds 1) ≡ quantised_by gs (kind_at kinds 0) (kind_at kinds 1)
+  unfolding quantised_by
+  levels_same kinds known fs gs h =
+      let g = λ (xs : List (List ℤ)) (b : ℕ). levels_of (slice_index_or xs b []) (kind_of (kind_at kinds 0) (kind_at kinds 1) b) in
+      let each : (b : ℕ) → b < 6 → g fs b ≡ g gs b = λ b lt. elim (h.at b lt) [
+        | inl e ↦ ap (λ (f : List ℤ). levels_of f (kind_of (kind_at kinds 0) (kind_at kinds 1) b)) e
+        | inr both ↦ none_there kinds known (slice_index_or fs b []) b both.0 ∙ sym (none_there kinds known (slice_index_or gs b []) b both.1)
+      ] in
+      fill_by_all (g gs) (map (g fs) (range_with_len 0 6)) 6 [] (length-map-range_with_len (g fs) 0 6)
+      (λ b lt. get_or-map-range_with_len (g fs) 0 6 b b [] lt (omega arith) ∙ each b lt)

@@ -34,3 +34,4 @@ pub mod IntraParts
 pub mod IntraTried
 pub mod Settled
 pub mod Means
+pub mod Near

@@ -1,11 +1,14 @@
 -- Transforms of chroma blocks, by either DCT type, and the pattern as it is made block by block.
-use Rattle.std.proofs.Common.{◌≡◌, inl, inr, [], length, get_or, subst, ℕ, zero, suc, ◌+◌, ◌*◌, ◌^◌, ◌<◌, ◌≤◌, Bool, true, false, not, cond, List, map, refl, ap, ◌∙◌, arith, ℤ}
+use Rattle.std.proofs.Common.{◌≡◌, inl, inr, [], All, length, get_or, subst, sym, ℕ, zero, suc, ◌+◌, ◌*◌, ◌^◌, ◌<◌, ◌≤◌, Bool, true, false, not, cond, List, map, refl, ap, ◌∙◌, arith, ℤ}
 use Rattle.std.specs.List.{range_with_len}
 use Rattle.std.proofs.lemmas.Bool.{cases_lt}
 use Rattle.std.proofs.Math.Nat.{pow-le-pow_right}
+use Rattle.std.proofs.lemmas.List.FromFn.{get_or-map-range_with_len}
+use Rattle.std.proofs.lemmas.List.Elements.{All-from_get_or}
+use Rattle.m2v_idct.specs.Ranges.{IsCoefficient}
 use Rattle.m2v_idct.specs.Forward.{forward_of}
 use Rattle.m2v_choose.specs.Decisions.{block_place, differences, pattern_of}
-use Rattle.m2v_choose.specs.Trials.{is_empty, transforms_of}
+use Rattle.m2v_choose.specs.Trials.{is_empty, transforms_of, AreFar, HaveSame, IsSame, StandsFor}
 
 -- transforms of chroma blocks are the same by both DCT types
 pub six_transforms : (s p : List ℕ) → length (transforms_of s p false) ≡ 6
@@ -75,3 +78,15 @@ pub pattern_whole : (f : ℕ → List ℤ) → pattern_to (λ b. is_empty (f b))
 unfolding pattern_of pattern_to
 pattern_whole f =
     omega (arith, shared (is_empty (f 0)) 32, shared (is_empty (f 1)) 16, shared (is_empty (f 2)) 8, shared (is_empty (f 3)) 4, shared (is_empty (f 4)) 2, shared (is_empty (f 5)) 1)
+
+-- six blocks that stand for transforms
+pub six_stand : (least : ℕ) (s p : List ℕ) (dct : Bool) (out : List (List ℤ)) (most : List ℕ) → length out ≡ 6
+    → ((b : ℕ) → b < 6 → StandsFor least (forward_of (differences s p dct b)) (get_or out b []) (get_or most b 0))
+    → HaveSame least out (transforms_of s p dct) × All (All IsCoefficient) out × AreFar out most
+unfolding transforms_of
+six_stand least s p dct out most len at =
+    let f = λ (b : ℕ). forward_of (differences s p dct b) in (
+      record { at = λ b lt. subst (IsSame least (get_or out b [])) (sym (get_or-map-range_with_len f 0 6 b b [] lt (omega arith))) (at b lt).alike },
+      All-from_get_or (All IsCoefficient) out [] (λ i lt. (at i (omega (arith, len, lt))).known),
+      record { at = λ b k lt small. (at b lt).far k small },
+    )

@@ -31,6 +31,14 @@ set_next P xs d n v inside h here =
     (λ k l. let ne : k ≢ n = omega arith in rw get_or-set_other (h k l))
     (rw get_or-set_same here)
 
+-- the same of two lists at once
+pub set_both : {A B : Type 0} (P : ℕ → A → B → Type 0) (xs : List A) (d : A) (ys : List B) (e : B) (n : ℕ) (v : A) (w : B) → n < length xs → n < length ys
+    → ((k : ℕ) → k < n → P k (get_or xs k d) (get_or ys k e)) → P n v w → (k : ℕ) → k < n + 1 → P k (get_or (set xs n v) k d) (get_or (set ys n w) k e)
+set_both P xs d ys e n v w inside within h here =
+    below_more (λ k. P k (get_or (set xs n v) k d) (get_or (set ys n w) k e)) n
+    (λ k l. let ne : k ≢ n = omega arith in rw (get_or-set_other xs n k v d ne, get_or-set_other ys n k w e ne) (h k l))
+    (rw (get_or-set_same xs n v d inside, get_or-set_same ys n w e within) here)
+
 -- the same, of what each element holds
 pub set_next_of : {A B : Type 0} (f : A → B) (P : ℕ → B → Type 0) (xs : List A) (d : B) (n : ℕ) (v : A) → n < length xs → ((k : ℕ) → k < n → P k (get_or (map f xs) k d)) → P n (f v)
     → (k : ℕ) → k < n + 1 → P k (get_or (map f (set xs n v)) k d)

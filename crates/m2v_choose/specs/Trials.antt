@@ -68,6 +68,25 @@ quantised_by transforms luma chroma = map (λ block. quantised (slice_index_or t
 pub record AreFar (transforms : List (List ℤ)) (most : List ℕ) : Type 0 where
   pub at : (b k : ℕ) → b < 6 → k < 64 → unsigned_abs (nth (slice_index_or transforms b []) k) ≤ slice_index most b
 
+-- no coefficient of a block lies as far from 0
+abbrev pub AreBelow : ℕ → List ℤ → Type 0
+AreBelow least f = (k : ℕ) → k < 64 → unsigned_abs (nth f k) < least
+
+-- two blocks of coefficients are one, or no coefficient of either lies as far from 0: so they have the same levels, where such
+-- a coefficient has none
+abbrev pub IsSame : ℕ → List ℤ → List ℤ → Type 0
+IsSame least f g = (f ≡ g) ⊎ (AreBelow least f × AreBelow least g)
+
+-- the same of six blocks
+pub record HaveSame (least : ℕ) (fs gs : List (List ℤ)) : Type 0 where
+  pub at : (b : ℕ) → b < 6 → IsSame least (slice_index_or fs b []) (slice_index_or gs b [])
+
+-- these coefficients stand for those of a transform, and lie so far from 0 at most
+pub record StandsFor (least : ℕ) (transform f : List ℤ) (most : ℕ) : Type 0 where
+  pub alike : IsSame least f transform
+  pub known : All IsCoefficient f
+  pub far : (k : ℕ) → k < 64 → unsigned_abs (nth f k) ≤ most
+
 -- ---- squares of blocks
 
 -- the squares of a block's samples

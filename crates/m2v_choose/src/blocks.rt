@@ -1,5 +1,5 @@
 //! The blocks of a macroblock: what is transformed, the transforms, the levels, and the pattern.
-ghost use Rattle.std.specs.Prelude.{true, false, not, ℕ, ◌≡◌, ◌≤◌, ◌<◌, ◌+◌, ◌*◌, All, [], cond, replicate, slice_index, slice_index_or, pos, ◌-ℤ◌, unsigned_abs};
+ghost use Rattle.std.specs.Prelude.{true, false, not, nat_lt, ◌-◌, ℕ, ◌≡◌, ◌≤◌, ◌<◌, ◌+◌, ◌*◌, All, [], cond, replicate, slice_index, slice_index_or, pos, ◌-ℤ◌, unsigned_abs};
 ghost use Rattle.m2v_quant.specs.Kinds.{IsKind, IsLevel};
 ghost use Rattle.m2v_quant.specs.Quantiser.{levels_of as quantised};
 ghost use Rattle.m2v_recon.specs.Macro.{kind_at, kind_of};
@@ -8,7 +8,7 @@ ghost use Rattle.m2v_idct.specs.Ranges.{IsSample, IsCoefficient};
 ghost use Rattle.m2v_idct.specs.Forward.{forward_of};
 ghost use Rattle.m2v_recon.specs.Steps.{levels_of};
 ghost use Rattle.m2v_choose.specs.Decisions.{block_place, differences as differences_of, pattern_of as pattern_in};
-ghost use Rattle.m2v_choose.specs.Trials.{is_empty, difference_at, transforms_of, quantised_by, AreFar};
+ghost use Rattle.m2v_choose.specs.Trials.{is_empty, difference_at, transforms_of, quantised_by, AreFar, AreSquares, HaveSame, StandsFor, block_squared};
 
 use m2v_idct::forward_in_place;
 use m2v_pred::Block16;
@@ -106,56 +106,6 @@ pub fn transform_one(
     *out = own;
 }
 
-/// The transforms of the differences of the six blocks.
-pub fn transform(source: &Block16, prediction: &Block16, dct_field: bool, out: &mut [[i32; 64]; 6])
-    ensures value { out.new ≡ transforms_of source.now.at prediction.now.at dct_field }
-    ensures coefficients { All (All IsCoefficient) out.new }
-{
-    for block in 0..6usize {
-        transform_one(source, prediction, dct_field, block, &mut out[block]);
-    }
-}
-
-/// The transform of a block's differences by DCT type 1: of a chroma block that by DCT type 0, which `frame` holds.
-#[inline(always)]
-fn block_by_fields(
-    source: &Block16,
-    prediction: &Block16,
-    frame: &[[i32; 64]; 6],
-    block: usize,
-    out: &mut [i32; 64],
-)
-    requires block { block < 6 }
-    requires frame { frame.now ≡ transforms_of source.now.at prediction.now.at false }
-    requires known { All (All IsCoefficient) frame.now }
-    ensures value { out.new ≡ forward_of
-        (differences_of source.now.at prediction.now.at true block) }
-    ensures coefficients { All IsCoefficient out.new }
-{
-    if block >= 4 {
-        *out = frame[block];
-        return;
-    }
-    transform_one(source, prediction, true, block, out);
-}
-
-/// The transforms by DCT type 1, behind those by DCT type 0.
-pub fn transform_by_fields(
-    source: &Block16,
-    prediction: &Block16,
-    frame: &[[i32; 64]; 6],
-    out: &mut [[i32; 64]; 6],
-)
-    requires frame { frame.now ≡ transforms_of source.now.at prediction.now.at false }
-    requires known { All (All IsCoefficient) frame.now }
-    ensures value { out.new ≡ transforms_of source.now.at prediction.now.at true }
-    ensures coefficients { All (All IsCoefficient) out.new }
-{
-    for block in 0..6usize {
-        block_by_fields(source, prediction, frame, block, &mut out[block]);
-    }
-}
-
 /// How far a coefficient lies from 0.
 #[inline(always)]
 fn size(coefficient: i32) -> u32
@@ -186,14 +136,159 @@ fn largest(transform: &[i32; 64]) -> u32
     most
 }
 
-/// How far the coefficients of each of the six blocks lie from 0 at most.
-pub fn farthest(transforms: &[[i32; 64]; 6]) -> [u32; 6]
-    requires { All (All IsCoefficient) transforms.now }
-    ensures { AreFar transforms.now result }
+/// Whether the squares of a block's differences are so few that no coefficient of it lies as far from 0 as `least`: the
+/// square of one is at most a little more than all of them.
+#[inline(always)]
+fn is_near(squares: u32, least: u32) -> bool
+    requires some { 2 ≤ least }
+    requires most { least ≤ 62 }
+    ensures { result ≡ nat_lt squares (least * (least - 1)) }
+{
+    squares < least * (least - 1)
+}
+
+/// The transform of a block's differences, whose squares these are, and how far its coefficients lie from 0 at most. Where
+/// the squares tell that none lies as far as `least` it isn't made: 0 stands in its place.
+#[inline(always)]
+fn transform_far(
+    source: &Block16,
+    prediction: &Block16,
+    dct_field: bool,
+    block: usize,
+    squares: u32,
+    least: u32,
+    out: &mut [i32; 64],
+) -> u32
+    requires block { block < 6 }
+    requires squares { squares ≡ block_squared dct_field source.now.at prediction.now.at block }
+    requires some { 2 ≤ least }
+    requires most { least ≤ 62 }
+    ensures { StandsFor least (forward_of
+        (differences_of source.now.at prediction.now.at dct_field block)) out.new result }
+{
+    if is_near(squares, least) {
+        *out = [0; 64];
+        return 0;
+    }
+    transform_one(source, prediction, dct_field, block, out);
+    largest(out)
+}
+
+/// The transforms of the six blocks by a DCT type.
+#[derive(Clone, Copy)]
+pub struct FarTransforms<'a> {
+    /// The transforms; 0 may stand for one that has no level.
+    pub at: &'a [[i32; 64]; 6],
+    /// So far the coefficients of each lie from 0 at most.
+    pub most: &'a [u32; 6],
+}
+
+/// The transforms of the differences of the six blocks by DCT type 0, and how far the coefficients of each lie from 0 at
+/// most. 0 stands for a block of so few squares that none of them lies as far as `least`.
+pub fn transform(
+    source: &Block16,
+    prediction: &Block16,
+    squares: &[u32; 6],
+    least: u32,
+    out: &mut [[i32; 64]; 6],
+) -> [u32; 6]
+    requires squares { AreSquares false source.now.at prediction.now.at squares.now }
+    requires some { 2 ≤ least }
+    requires most { least ≤ 62 }
+    ensures alike { HaveSame least out.new
+        (transforms_of source.now.at prediction.now.at false) }
+    ensures coefficients { All (All IsCoefficient) out.new }
+    ensures far { AreFar out.new result }
 {
     let mut most = [0; 6];
     for block in 0..6usize {
-        most[block] = largest(&transforms[block]);
+        let own = squares[block];
+        most[block] = transform_far(
+            source,
+            prediction,
+            false,
+            block,
+            own,
+            least,
+            &mut out[block],
+        );
+    }
+    most
+}
+
+/// One of six blocks.
+#[inline(always)]
+fn copy_block(blocks: &[[i32; 64]; 6], block: usize, out: &mut [i32; 64])
+    requires block { block < 6 }
+    requires known { All (All IsCoefficient) blocks.now }
+    ensures value { out.new ≡ slice_index_or blocks.now block [] }
+    ensures coefficients { All IsCoefficient out.new }
+{
+    *out = blocks[block];
+}
+
+/// The same of one block by DCT type 1. A chroma block has that by DCT type 0, which `frame` holds.
+#[inline(always)]
+fn block_by_fields(
+    source: &Block16,
+    prediction: &Block16,
+    frame: &FarTransforms,
+    block: usize,
+    squares: u32,
+    least: u32,
+    out: &mut [i32; 64],
+) -> u32
+    requires block { block < 6 }
+    requires frame { HaveSame least frame.now.at.now
+        (transforms_of source.now.at prediction.now.at false) }
+    requires known { All (All IsCoefficient) frame.now.at.now }
+    requires far { AreFar frame.now.at.now frame.now.most.now }
+    requires squares { squares ≡ block_squared true source.now.at prediction.now.at block }
+    requires some { 2 ≤ least }
+    requires most { least ≤ 62 }
+    ensures { StandsFor least (forward_of
+        (differences_of source.now.at prediction.now.at true block)) out.new result }
+{
+    if block >= 4 {
+        copy_block(frame.at, block, out);
+        return frame.most[block];
+    }
+    transform_far(source, prediction, true, block, squares, least, out)
+}
+
+/// The transforms by DCT type 1, behind those by DCT type 0.
+pub fn transform_by_fields(
+    source: &Block16,
+    prediction: &Block16,
+    frame: &FarTransforms,
+    squares: &[u32; 6],
+    least: u32,
+    out: &mut [[i32; 64]; 6],
+) -> [u32; 6]
+    requires frame { HaveSame least frame.now.at.now
+        (transforms_of source.now.at prediction.now.at false) }
+    requires known { All (All IsCoefficient) frame.now.at.now }
+    requires far { AreFar frame.now.at.now frame.now.most.now }
+    requires squares { AreSquares true source.now.at prediction.now.at squares.now }
+    requires some { 2 ≤ least }
+    requires most { least ≤ 62 }
+    ensures alike { HaveSame least out.new
+        (transforms_of source.now.at prediction.now.at true) }
+    ensures coefficients { All (All IsCoefficient) out.new }
+    ensures far { AreFar out.new result }
+{
+    let mut most = [0; 6];
+    for block in 0..6usize {
+        let own = squares[block];
+        most[block] = block_by_fields(
+            source,
+            prediction,
+            frame,
+            block,
+            own,
+            least,
+            &mut out[block],
+        );
     }
     most
 }

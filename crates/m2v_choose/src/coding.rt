@@ -6,10 +6,10 @@ ghost use Rattle.m2v_macro.specs.Macros.{no_form as no_form_of};
 ghost use Rattle.m2v_choose.specs.Decisions.{Prediction, uncoded_syntax, intra_syntax as intra_syntax_of};
 ghost use Rattle.m2v_choose.specs.Candidates.{second_q as second_q_of, codings_at, codings, samples_by, coded_by, has_block, intra_by};
 ghost use Rattle.m2v_choose.specs.Own.{IsCode};
-ghost use Rattle.m2v_choose.specs.Trials.{References, decided, IsTask, IsRated, Tried, CanCode, has_types, AreSquares, IsMeasured, block_squared, coded_least, uncoded_squared, sends_code, with_blocks as with_blocks_of, transforms_of, AreFar};
+ghost use Rattle.m2v_choose.specs.Trials.{References, decided, IsTask, IsRated, Tried, CanCode, has_types, AreSquares, IsMeasured, block_squared, coded_least, uncoded_squared, sends_code, with_blocks as with_blocks_of, transforms_of, AreFar, HaveSame};
 
 use crate::bits::{Headers, bits_before};
-use crate::blocks::{farthest, quantise_blocks, reaches, transform, transform_by_fields};
+use crate::blocks::{FarTransforms, quantise_blocks, reaches, transform, transform_by_fields};
 use crate::scratch::{BothTransforms, CodingScratch};
 use crate::squares::{least_blocks, part_squares_by_fields, uncoded_squares};
 use crate::task::Task;
@@ -38,15 +38,6 @@ pub struct Uncoded<'a> {
     pub headers: Headers,
 }
 
-/// The transforms of the six blocks by a DCT type.
-#[derive(Clone, Copy)]
-pub struct FarTransforms<'a> {
-    /// The transforms.
-    pub at: &'a [[i32; 64]; 6],
-    /// So far the coefficients of each lie from 0 at most.
-    pub most: &'a [u32; 6],
-}
-
 /// The transforms of the six blocks: by DCT type 0, and by DCT type 1 where the picture has it.
 #[derive(Clone, Copy)]
 pub struct Transforms<'a> {
@@ -70,6 +61,17 @@ pub fn sends(task: &Task, q: u8) -> bool
     ensures { result ≡ sends_code task.now.state.now q }
 {
     q != task.state.quantiser
+}
+
+/// So far from 0 a coefficient lies at least that has a level, where the block isn't intra.
+#[inline(always)]
+fn least_far(q: u8) -> u32
+    requires { IsCode q }
+    ensures value { result ≡ 2 * q }
+    ensures some { 2 ≤ result }
+    ensures most { result ≤ 62 }
+{
+    2 * u32::from(q)
 }
 
 /// The second quantiser that is tried.
@@ -134,35 +136,31 @@ pub fn intra_syntax(task: &Task, q: u8, dct_field: bool) -> MacroSyntax
     m
 }
 
-/// The transforms by DCT type 1, where the picture has it.
+/// The transforms by DCT type 1 and how far their coefficients lie from 0 at most, where the picture has it.
 #[inline(always)]
-pub fn transform_fields(
+fn transform_fields(
     task: &Task,
-    prediction: &Block16,
-    frame: &[[i32; 64]; 6],
+    plain: &Uncoded,
+    frame: &FarTransforms,
+    least: u32,
     out: &mut [[i32; 64]; 6],
-)
-    requires frame { frame.now
-        ≡ transforms_of task.now.source.now.at prediction.now.at false }
-    requires known { All (All IsCoefficient) frame.now }
-    ensures value { has_types task.now.context.now ≡ true
-        → out.new ≡ transforms_of task.now.source.now.at prediction.now.at true }
+) -> [u32; 6]
+    requires measured { IsMeasured task.now plain.now }
+    requires frame { HaveSame least frame.now.at.now
+        (transforms_of task.now.source.now.at plain.now.prediction.now.at false) }
+    requires known { All (All IsCoefficient) frame.now.at.now }
+    requires far { AreFar frame.now.at.now frame.now.most.now }
+    requires some { 2 ≤ least }
+    requires most { least ≤ 62 }
+    ensures alike { has_types task.now.context.now ≡ true → HaveSame least out.new
+        (transforms_of task.now.source.now.at plain.now.prediction.now.at true) }
     ensures coefficients { has_types task.now.context.now ≡ true
         → All (All IsCoefficient) out.new }
+    ensures far { has_types task.now.context.now ≡ true → AreFar out.new result }
 {
     if has_dct_type(task.context) {
-        transform_by_fields(task.source, prediction, frame, out);
-    }
-}
-
-/// How far the coefficients by DCT type 1 lie from 0 at most, where the picture has it.
-#[inline(always)]
-fn farthest_fields(task: &Task, field: &[[i32; 64]; 6]) -> [u32; 6]
-    requires { has_types task.now.context.now ≡ true → All (All IsCoefficient) field.now }
-    ensures { has_types task.now.context.now ≡ true → AreFar field.now result }
-{
-    if has_dct_type(task.context) {
-        return farthest(field);
+        let (source, prediction) = (task.source, plain.prediction);
+        return transform_by_fields(source, prediction, frame, plain.field, least, out);
     }
     [0; 6]
 }
@@ -279,8 +277,8 @@ impl Best {
         ensures tried { (r : References) (p : Prediction)
             → plain.now.bare.now ≡ uncoded_syntax (decided r task.now) p
             → plain.now.prediction.now.at ≡ samples_by (decided r task.now) p
-            → transforms.now.at.now
-            ≡ transforms_of task.now.source.now.at plain.now.prediction.now.at dct_field
+            → HaveSame (2 * q) transforms.now.at.now
+            (transforms_of task.now.source.now.at plain.now.prediction.now.at dct_field)
             → IsRated (decided r task.now) self.old
             → Tried (decided r task.now) self.old self.new
             (filter has_block (coded_by (decided r task.now) p
@@ -328,10 +326,11 @@ impl Best {
         ensures tried { (r : References) (p : Prediction)
             → plain.now.bare.now ≡ uncoded_syntax (decided r task.now) p
             → plain.now.prediction.now.at ≡ samples_by (decided r task.now) p
-            → transforms.now.frame.at.now
-            ≡ transforms_of task.now.source.now.at plain.now.prediction.now.at false
-            → (has_types task.now.context.now ≡ true → transforms.now.field.at.now
-            ≡ transforms_of task.now.source.now.at plain.now.prediction.now.at true)
+            → HaveSame (2 * q) transforms.now.frame.at.now
+            (transforms_of task.now.source.now.at plain.now.prediction.now.at false)
+            → (has_types task.now.context.now ≡ true
+            → HaveSame (2 * q) transforms.now.field.at.now
+            (transforms_of task.now.source.now.at plain.now.prediction.now.at true))
             → IsRated (decided r task.now) self.old
             → Tried (decided r task.now) self.old self.new
             (filter has_block (map (coded_by (decided r task.now) p)
@@ -365,20 +364,21 @@ impl Best {
             ..
         } = scratch;
         let (frame, field) = (&mut frame.at, &mut field.at);
-        transform(task.source, plain.prediction, false, frame);
-        transform_fields(task, plain.prediction, frame, field);
-        let (far, far_field) = (farthest(frame), farthest_fields(task, field));
+        let q = task.limits.q;
+        let least = least_far(q);
+        let far = transform(task.source, plain.prediction, plain.frame, least, frame);
+        let frame = FarTransforms {
+            at: frame,
+            most: &far,
+        };
+        let far_field = transform_fields(task, plain, &frame, least, field);
         let transforms = Transforms {
-            frame: FarTransforms {
-                at: frame,
-                most: &far,
-            },
+            frame,
             field: FarTransforms {
                 at: field,
                 most: &far_field,
             },
         };
-        let q = task.limits.q;
         self.try_codings_at(task, plain, &transforms, q, levels);
         let second = second_q(q);
         if second != q {

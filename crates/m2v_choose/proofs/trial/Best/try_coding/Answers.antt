@@ -7,11 +7,11 @@ use Rattle.m2v_choose.specs.Decisions.{written}
 use Rattle.m2v_macro.specs.declared.values.MacroSyntax.{MacroSyntax}
 use Rattle.m2v_choose.specs.Decisions.{pattern_of}
 use Rattle.m2v_choose.specs.Laws.{IsWritable}
-use Rattle.m2v_choose.specs.Trials.{decided, Tried, block_squared, uncoded_squared, with_blocks, sends_code, quantised_by, Predicts}
+use Rattle.m2v_choose.specs.Trials.{decided, Tried, block_squared, uncoded_squared, with_blocks, sends_code, quantised_by, Predicts, transforms_of}
 use Rattle.std.specs.Prelude.{slice_index_or, unsigned_abs}
 use Rattle.m2v_idct.specs.Block.{nth}
 use Rattle.m2v_macroblock.specs.Macroblocks.{kind_for, block_levels}
-use Rattle.m2v_choose.proofs.Empties.{none_reached, none_there}
+use Rattle.m2v_choose.proofs.Empties.{levels_same, none_reached, none_there}
 use Rattle.m2v_choose.proofs.Tried.{own_picture}
 use Rattle.m2v_vlc.specs.Tables.{pattern_code}
 use Rattle.m2v_macro.specs.Texts.{macro_text}
@@ -45,15 +45,21 @@ returns-then-not-reaches c = record {
       let chroma = kind_for t.context.now false false q in
       let low : (b k : ℕ) → b < 6 → k < 64 → unsigned_abs (nth (slice_index_or ts b []) k) < 2 * q =
       λ b k lt small. omega (arith, c.requires.far.at b k lt small, c.reaches.ensures c.if-not-reaches.true b lt, c.from-least.ensures) in
-      coding_none r t p c.args.plain.now.bare.now same c.args.plain.now.prediction.now.at ts (quantised_by ts luma chroma) q c.args.dct_field (luma ∷ chroma ∷ [])
-      samples made refl refl (none_reached t.context.now q c.requires.task.asked.own ts low) c.args.self.now rated;
+      let kinds = luma ∷ chroma ∷ [] in
+      let whole = transforms_of t.source.now.at c.args.plain.now.prediction.now.at c.args.dct_field in
+      coding_none r t p c.args.plain.now.bare.now same c.args.plain.now.prediction.now.at whole (quantised_by ts luma chroma) q c.args.dct_field kinds
+      samples refl refl (levels_same t.context.now q c.requires.task.asked.own kinds refl ts whole made) (none_reached t.context.now q c.requires.task.asked.own ts low) c.args.self.now rated;
 }
 
 pub returns-then-pattern-eq0 : goal.returns-then-pattern-eq0
 returns-then-pattern-eq0 c = record {
   tried = λ r p same samples made rated.
-      coding_none r c.args.task.now p c.args.plain.now.bare.now same c.args.plain.now.prediction.now.at c.args.transforms.now.at.now (levels_of c.quantise_blocks-pattern.new.out) c.args.q c.args.dct_field c.kinds-kinds.result
-      samples made c.kinds-kinds.ensures.value c.quantise_blocks-pattern.ensures.value (sym c.quantise_blocks-pattern.ensures.pattern ∙ c.if-pattern-eq0.true) c.args.self.now rated;
+      let t = c.args.task.now in
+      let whole = transforms_of t.source.now.at c.args.plain.now.prediction.now.at c.args.dct_field in
+      coding_none r t p c.args.plain.now.bare.now same c.args.plain.now.prediction.now.at whole (levels_of c.quantise_blocks-pattern.new.out) c.args.q c.args.dct_field c.kinds-kinds.result
+      samples refl c.kinds-kinds.ensures.value
+      (c.quantise_blocks-pattern.ensures.value ∙ levels_same t.context.now c.args.q c.requires.task.asked.own c.kinds-kinds.result c.kinds-kinds.ensures.value c.args.transforms.now.at.now whole made)
+      (sym c.quantise_blocks-pattern.ensures.pattern ∙ c.if-pattern-eq0.true) c.args.self.now rated;
 }
 
 pub try_written-requires-clause-writable : goal.try_written-requires-clause-writable
@@ -120,7 +126,10 @@ returns c = record {
       let some : 0 < pattern_of ls = omega (arith, c.if-pattern-eq0.false, c.quantise_blocks-pattern.ensures.pattern) in
       let told : Predicts r t c.with_blocks-syntax.result c.args.plain.now.prediction.now.at =
       subst (λ (x : MacroSyntax). Predicts r t x c.args.plain.now.prediction.now.at) (sym full) (predicts r t p c.args.plain.now.bare.now same c.args.plain.now.prediction.now.at q dct (pattern_of ls) samples) in
-      coding_some r t p c.args.plain.now.bare.now same c.args.plain.now.prediction.now.at c.args.transforms.now.at.now ls q dct c.kinds-kinds.result
-      samples made c.kinds-kinds.ensures.value c.quantise_blocks-pattern.ensures.value some c.args.self.now c.try_written.new.self
+      let whole = transforms_of t.source.now.at c.args.plain.now.prediction.now.at dct in
+      coding_some r t p c.args.plain.now.bare.now same c.args.plain.now.prediction.now.at whole ls q dct c.kinds-kinds.result
+      samples refl c.kinds-kinds.ensures.value
+      (c.quantise_blocks-pattern.ensures.value ∙ levels_same t.context.now q c.requires.task.asked.own c.kinds-kinds.result c.kinds-kinds.ensures.value c.args.transforms.now.at.now whole made)
+      some c.args.self.now c.try_written.new.self
       (subst (λ (x : MacroSyntax). Tried (decided r t) c.args.self.now c.try_written.new.self (written x ls ∷ [])) full (c.try_written.ensures.tried r told rated));
 }
