@@ -1,6 +1,6 @@
 -- The last of pieces: where it ends, how many bytes they have, and whether a start code can follow it.
 use Rattle.std.proofs.Common.{◌≡◌, ℕ, suc, ◌+◌, ◌-◌, ◌<◌, ◌≤◌, Bool, true, false, List, [], ◌∷◌, ◌++◌, length, get_or, refl, sym, ap, subst, ◌∙◌, append-nil, arith}
-use Rattle.std.specs.Prelude.{nat_le, ◌&&◌, vec_len, All}
+use Rattle.std.specs.Prelude.{nat_le, ◌&&◌, All}
 use Rattle.std.proofs.lemmas.List.{length-append}
 use Rattle.std.proofs.lemmas.List.Elements.{All-get_or}
 use Rattle.std.proofs.Math.Bool.{and-false, and-true}
@@ -13,6 +13,7 @@ use Rattle.m2v_decode.specs.m2v_dec_piece.declared.answer.Piece.{Piece}
 use Rattle.m2v_decode.specs.m2v_dec_piece.Sound.{IsSoundPiece}
 use Rattle.m2v_decode.specs.Decoding.{whole_of}
 use Rattle.m2v_decode.proofs.EndLaws.{whole_length}
+use Rattle.m2v_mend.specs.Editing.{zeros_in}
 use Rattle.m2v_mend.specs.Tail.{last_bits}
 use Rattle.m2v_mend.specs.Strand.{wholes_of, bytes_in}
 use Rattle.m2v_mend.proofs.Lasting.{last_is, zeros_last, open_pieces}
@@ -20,24 +21,23 @@ use Rattle.m2v_mend.proofs.Walked.{last_end}
 
 -- ---- one piece
 
-pub zeros_left : (p : Piece) (n : ℕ) → n ≡ vec_len p.bytes → 0 < p.length - n → false ≡ last_open (units_of (whole_of p))
-zeros_left p n e some = sym (subst (λ (m : ℕ). last_open (units_of (text_of p.bytes.items (p.length - m))) ≡ false) e (zeros_last p.bytes.items (p.length - n) some))
+pub zeros_left : (p : Piece) (z : ℕ) → z ≡ zeros_in p → 0 < z → false ≡ last_open (units_of (whole_of p))
+zeros_left p z e some = sym (zeros_last p.bytes.items (zeros_in p) (omega (arith, e, some)))
 
-no_zeros : (p : Piece) (n : ℕ) → n ≡ vec_len p.bytes → p.length - n ≤ 0 → whole_of p ≡ p.bytes.items
-no_zeros p n e none =
-    let is : p.length - n ≡ 0 = omega (arith, none) in
-    ap (λ (m : ℕ). text_of p.bytes.items (p.length - m)) (sym e) ∙ ap (text_of p.bytes.items) is ∙ append-nil p.bytes.items
+no_zeros : (p : Piece) (z : ℕ) → z ≡ zeros_in p → z ≤ 0 → whole_of p ≡ p.bytes.items
+no_zeros p z e none =
+    let is : zeros_in p ≡ 0 = omega (arith, e, none) in
+    ap (text_of p.bytes.items) is ∙ append-nil p.bytes.items
 
-pub not_open : (p : Piece) (n : ℕ) → n ≡ vec_len p.bytes → p.length - n ≤ 0 → ends_open p.bytes.items ≡ false → false ≡ last_open (units_of (whole_of p))
-not_open p n e none closed =
-    let ends : ends_open (whole_of p) ≡ false = ap ends_open (no_zeros p n e none) ∙ closed in
+pub not_open : (p : Piece) (z : ℕ) → z ≡ zeros_in p → z ≤ 0 → ends_open p.bytes.items ≡ false → false ≡ last_open (units_of (whole_of p))
+not_open p z e none closed =
+    let ends : ends_open (whole_of p) ≡ false = ap ends_open (no_zeros p z e none) ∙ closed in
     sym (last_is (whole_of p) ∙ ap (λ (b : Bool). nat_le 56 (last_bits 0 (units_of (whole_of p))) && b) ends ∙ and-false _)
 
-pub open_so : (p : Piece) (n bits : ℕ) → n ≡ vec_len p.bytes → p.length - n ≤ 0 → ends_open p.bytes.items ≡ true → bits ≡ last_bits 0 (units_of (text_of p.bytes.items (p.length - n))) → nat_le 56 bits ≡ last_open (units_of (whole_of p))
-open_so p n bits e none opens is =
-    let ends : ends_open (whole_of p) ≡ true = ap ends_open (no_zeros p n e none) ∙ opens in
-    let same : bits ≡ last_bits 0 (units_of (whole_of p)) = is ∙ ap (λ (m : ℕ). last_bits 0 (units_of (text_of p.bytes.items (p.length - m)))) e in
-    ap (nat_le 56) same ∙ sym (last_is (whole_of p) ∙ ap (λ (b : Bool). nat_le 56 (last_bits 0 (units_of (whole_of p))) && b) ends ∙ and-true _)
+pub open_so : (p : Piece) (z bits : ℕ) → z ≡ zeros_in p → z ≤ 0 → ends_open p.bytes.items ≡ true → bits ≡ last_bits 0 (units_of (whole_of p)) → nat_le 56 bits ≡ last_open (units_of (whole_of p))
+open_so p z bits e none opens is =
+    let ends : ends_open (whole_of p) ≡ true = ap ends_open (no_zeros p z e none) ∙ opens in
+    ap (nat_le 56) is ∙ sym (last_is (whole_of p) ∙ ap (λ (b : Bool). nat_le 56 (last_bits 0 (units_of (whole_of p))) && b) ends ∙ and-true _)
 
 -- ---- the last piece
 

@@ -17,9 +17,9 @@ use Rattle.m2v_law_seam.specs.Seams.{lowered, marked_unit, later_opened}
 use Rattle.m2v_mend.specs.declared.edits.Edit.TheVariants.{Lower, Mark}
 use Rattle.m2v_mend.specs.declared.member.Member.{Member}
 use Rattle.m2v_mend.specs.Editing.{zeros_in, IsEdited}
-use Rattle.m2v_mend.specs.Members.{pieces_of}
+use Rattle.m2v_mend.specs.Kept.{pieces_of, bodies}
 use Rattle.m2v_mend.specs.Strand.{wholes_of, ends_of}
-use Rattle.m2v_mend.specs.Opening.{bodies, IsCopy, IsLower, AreAdded, IsOwn, IsOwnFirst, FrontTold}
+use Rattle.m2v_mend.specs.Opening.{IsCopy, IsLower, AreAdded, IsOwn, IsOwnFirst, FrontTold}
 use Rattle.m2v_mend.proofs.EditLaws.{are_units}
 use Rattle.m2v_mend.proofs.FrontLaws.{both_edits}
 use Rattle.m2v_mend.proofs.Parting.{bodies_append, ends_append, wholes_append, ends_more, next_taken}

@@ -282,10 +282,6 @@ edited_next e us z bytes at n new next h some f is value ended same =
       over = i.over;
     })
 
--- the first unit is there
-pub first_there : (bytes : List ℕ) (z : ℕ) → 0 < length bytes → IsWhole (text_of bytes z) → units_of (text_of bytes z) ≡ [] → ⊥
-first_there bytes z some whole none = absurd (omega (arith, some, ap length (whole ∙ ap joined none), text_length bytes z))
-
 -- and has four bytes
 pub first_long : (b : List ℕ) (z : ℕ) (u : List ℕ) (others : Units) → 0 < length b → IsZeroEnded b z → AreUnits (u ∷ others) → text_of b z ≡ u ++ joined others → 4 ≤ length b
 first_long b z u others some ended are e =

@@ -28,12 +28,14 @@ use Rattle.m2v_mend.specs.declared.begin.Leading.{Leading}
 use Rattle.m2v_mend.specs.declared.member.Member.{Member}
 use Rattle.m2v_mend.specs.declared.opening.Shape.{Shape}
 use Rattle.m2v_mend.specs.declared.parts.SpanParts.{SpanParts}
-use Rattle.m2v_mend.specs.Members.{IsMember, pieces_of, IsSpan}
+use Rattle.m2v_mend.specs.Kept.{pieces_of, bodies}
+use Rattle.m2v_mend.specs.Members.{IsMember, IsSpan}
 use Rattle.m2v_mend.specs.Strand.{AreInTurn}
-use Rattle.m2v_mend.specs.Opening.{bodies, IsShape}
+use Rattle.m2v_mend.specs.Opening.{IsShape}
 use Rattle.m2v_mend.specs.Putting.{IsLeading}
 use Rattle.m2v_mend.specs.Telling.{IsInfo}
-use Rattle.m2v_mend.specs.Alone.{HasFirstPicture, HasFirstMatrices, reference_from, fault_as, is_able, UnableTold, LeadingTold}
+use Rattle.m2v_mend.specs.Alone.{HasFirstPicture, HasFirstMatrices, reference_from, is_able, UnableTold, LeadingTold}
+use Rattle.m2v_mend.specs.Making.{fault_told}
 use Rattle.m2v_mend.proofs.EditLaws.{past_get, within_get}
 use Rattle.m2v_mend.proofs.Parting.{bodies_append, next_taken, next_parts}
 use Rattle.m2v_mend.proofs.Openings.{leading_bodies, leading_count, frame_bodies}
@@ -269,7 +271,7 @@ module _ (s : Span) (x : SpanParts) (is : IsSpan s x) (short : x.long ≡ false)
   bodies_are : bodies x.members.items ≡ s.pieces
   bodies_are = is.pieces short
 
-  missing : (f : Fault) (n : ℕ) → f.kind ≡ MissingReference → f.place ≡ n → n ≡ picture_place s → fault_as f ≡ (if not (has_head s) then (NoSequence, 8 * s.place) else (MissingReference, picture_place s))
+  missing : (f : Fault) (n : ℕ) → f.kind ≡ MissingReference → f.place ≡ n → n ≡ picture_place s → fault_told f ≡ (if not (has_head s) then (NoSequence, 8 * s.place) else (MissingReference, picture_place s))
   missing f n kind place e =
       ap (λ (k : FaultKind). (k, f.place)) kind ∙ ap (λ (i : ℕ). (MissingReference, i)) (place ∙ e) ∙ ap (λ (b : Bool). if not b then (NoSequence, 8 * s.place) else (MissingReference, picture_place s)) (sym headed)
 

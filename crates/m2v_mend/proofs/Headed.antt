@@ -37,9 +37,10 @@ use Rattle.m2v_mend.specs.declared.header.Header.{Header}
 use Rattle.m2v_mend.specs.declared.member.Member.{Member}
 use Rattle.m2v_mend.specs.declared.parts.SpanParts.{SpanParts}
 use Rattle.m2v_mend.specs.Editing.{IsUnits, IsFromHeader}
-use Rattle.m2v_mend.specs.Members.{AreLater, AreSpanPieces, IsMember, IsSpan, IsOfStretch, pieces_of}
+use Rattle.m2v_mend.specs.Kept.{pieces_of, bodies}
+use Rattle.m2v_mend.specs.Members.{AreLater, AreSpanPieces, IsMember, IsSpan, IsOfStretch}
 use Rattle.m2v_mend.specs.Strand.{AreInTurn}
-use Rattle.m2v_mend.specs.Opening.{bodies, IsCopy}
+use Rattle.m2v_mend.specs.Opening.{IsCopy}
 use Rattle.m2v_mend.specs.Header.{IsFront, HeaderTold, IsHeaded}
 use Rattle.m2v_mend.proofs.CopyEdits.{copy_whole}
 use Rattle.m2v_mend.proofs.FrontLaws.{from_front, from_there}

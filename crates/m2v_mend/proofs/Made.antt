@@ -15,7 +15,7 @@ use Rattle.m2v_law_seam.specs.Spans.{units_of, units_in, has_group, begins_kind,
 use Rattle.m2v_law_seam.specs.Seams.{lowered, text_behind, first_reference, leading, has_own_head, opened_pieces, opened}
 use Rattle.m2v_law_seam.specs.Strands.{read_of, first_in, frames_in, reads, agrees, all_fit, is_short, is_strand}
 use Rattle.m2v_law_seam.specs.Faults.{has_head, begins_entry, is_under_way, strand_bytes, fault_alone, fault_of, fault_behind}
-use Rattle.m2v_law_seam.specs.Mending.{Gap, with_gap, Mending, strand_of, strands_of, frames_shown, first_kept, groups_behind, low_of_span, strand_with, goes_behind, put_behind, begins_strand, gaps_leading, strand_begun, span_gap, left_out, with_span, ended_by, strand_ended}
+use Rattle.m2v_law_seam.specs.Mending.{Gap, with_gap, Mending, strand_of, strands_of, frames_shown, first_kept, groups_behind, low_of_span, goes_behind, put_behind, begins_strand, gaps_leading, strand_begun, span_gap, left_out, with_span, ended_by, strand_ended}
 use Rattle.m2v_law_seam.specs.Told.{first_fault}
 use Rattle.m2v_law_seam.proofs.Chain.{reads_as, agree_self}
 use Rattle.m2v_law_seam.proofs.Fold.{begins_parts}
@@ -118,9 +118,6 @@ goes_by m s bytes e short =
     ap (λ (o : Option (List ℕ)). not (is_none o) && (is_short s && is_strand m.opening m.first (strand_bytes o ++ text_behind (strand_bytes o) (low_of_span m s) s.pieces))) e
     ∙ ap (λ (b : Bool). b && is_strand m.opening m.first (bytes ++ text_behind bytes (low_of_span m s) s.pieces)) short
 
-pub goes_long : (m : Mending) (s : Span) → is_short s ≡ false → goes_behind m s ≡ false
-goes_long m s off = ap (λ (b : Bool). not (is_none m.strand) && (b && is_strand m.opening m.first (strand_with m s))) off ∙ and-false (not (is_none m.strand))
-
 pub with_long : (first : Option Sequence) (s : Span) → is_short s ≡ false → begins_strand first s ≡ false
 with_long first s off =
     ap (λ (b : Bool). has_head s && (begins_entry s.pieces && (begins_kind 1 s.pieces && (not (has_matrices (units_in (leading s.pieces))) && ((b && all_fit (opened_pieces s)) && is_strand false first (opened s)))))) off
@@ -142,10 +139,6 @@ fault_put m s bytes e short can =
     under : (bytes : List ℕ) → CanBePut bytes s.pieces → is_under_way (Some bytes) s ≡ true
     under [] can = can
     under (b ∷ bytes) can = refl
-
-pub fault_long : (m : Mending) (s : Span) → is_short s ≡ false → fault_of m.strand (low_of_span m s) m.first s ≡ (Unsupported, 8 * s.place)
-fault_long m s off =
-    ap (λ (b : Bool). if not b then (Unsupported, 8 * s.place) else if is_under_way m.strand s then fault_behind s (strand_bytes m.strand ++ text_behind (strand_bytes m.strand) (low_of_span m s) s.pieces) else fault_alone m.first s) off
 
 -- ---- a span was put there
 

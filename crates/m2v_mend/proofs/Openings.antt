@@ -15,7 +15,8 @@ use Rattle.m2v_law_seam.specs.Strands.{all_fit}
 use Rattle.m2v_mend.specs.declared.member.Member.{Member}
 use Rattle.m2v_mend.specs.declared.opening.Shape.{Shape}
 use Rattle.m2v_mend.specs.Strand.{wholes_of, ends_of}
-use Rattle.m2v_mend.specs.Opening.{bodies, IsShape, AreAdded, FirstTold, ends_opened}
+use Rattle.m2v_mend.specs.Kept.{bodies}
+use Rattle.m2v_mend.specs.Opening.{IsShape, AreAdded, FirstTold, ends_opened}
 use Rattle.m2v_mend.proofs.Parting.{bodies_take, bodies_drop, bodies_length, ends_at, ends_take, ends_drop}
 
 -- ---- the pieces that aren't leading ones

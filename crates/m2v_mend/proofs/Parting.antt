@@ -9,9 +9,10 @@ use Rattle.m2v_law_seam.specs.Spans.{is_b_piece}
 use Rattle.m2v_law_seam.specs.Seams.{b_first, behind_b}
 use Rattle.m2v_law_seam.specs.Faults.{ends_from}
 use Rattle.m2v_mend.specs.declared.member.Member.{Member}
-use Rattle.m2v_mend.specs.Members.{IsMember, pieces_of}
+use Rattle.m2v_mend.specs.Kept.{pieces_of, bodies}
+use Rattle.m2v_mend.specs.Members.{IsMember}
 use Rattle.m2v_mend.specs.Strand.{wholes_of, ends_of, AreInTurn}
-use Rattle.m2v_mend.specs.Opening.{bodies, IsBehindFrame}
+use Rattle.m2v_mend.specs.Opening.{IsBehindFrame}
 
 -- ---- an element that is next
 

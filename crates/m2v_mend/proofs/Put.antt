@@ -1,7 +1,7 @@
 -- A span that is put behind the strand that is under way, or isn't.
 use Rattle.std.proofs.Common.{◌≡◌, ℕ, Bool, true, false, List, [], ◌∷◌, ◌++◌, length, Option, Some, None, Result, refl, sym, ap, subst, ◌∙◌, arith}
 use Rattle.std.proofs.lemmas.List.{nil_from_length}
-use Rattle.std.proofs.lemmas.Bool.{not-true, not-false}
+use Rattle.std.proofs.lemmas.Bool.{not-false}
 use Rattle.m2v_model.specs.declared.state.Sequence.{Sequence}
 use Rattle.m2v_model.specs.Units.{joined}
 use Rattle.m2v_decode.specs.m2v_dec_piece.declared.answer.Piece.{Piece}
@@ -27,9 +27,6 @@ use Rattle.m2v_mend.proofs.Made.{no_text, goes_by, fault_first_none, fault_put, 
 -- a span in memory that isn't long is within the limits
 pub short_is : (s : Span) (x : SpanParts) → IsSpan s x → x.long ≡ false → is_short s ≡ true
 short_is s x is off = not-false (is_short s) (sym is.long ∙ off)
-
-pub long_is : (s : Span) (x : SpanParts) → IsSpan s x → x.long ≡ true → is_short s ≡ false
-long_is s x is on = not-true (is_short s) (sym is.long ∙ on)
 
 -- no strand has a byte, and the span has no header
 pub not_under : (m : Mending) (s : Span) (z : StrandState) → IsUnder m (Some z) → IsOfStretch s → is_short s ≡ true → z.bytes ≡ 0 → has_own_head s.pieces ≡ false

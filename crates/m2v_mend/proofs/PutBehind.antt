@@ -31,7 +31,8 @@ use Rattle.m2v_mend.specs.declared.refusal.Refusal.TheVariants as refusals
 use Rattle.m2v_mend.specs.declared.member.Member.{Member}
 use Rattle.m2v_mend.specs.declared.parts.SpanParts.{SpanParts}
 use Rattle.m2v_mend.specs.Strand.{StrandState, wholes_of, bytes_in, IsAt, Told, IsCourse, course_of, ends_of}
-use Rattle.m2v_mend.specs.Members.{IsMember, pieces_of, IsSpan, IsOfStretch}
+use Rattle.m2v_mend.specs.Kept.{pieces_of}
+use Rattle.m2v_mend.specs.Members.{IsMember, IsSpan, IsOfStretch}
 use Rattle.m2v_mend.specs.Putting.{CanBePut, IsUnderWay, PutTold}
 use Rattle.m2v_mend.specs.Copying.{AreCopies, fault_by}
 use Rattle.m2v_mend.proofs.Showing.{read_is}

@@ -1,6 +1,6 @@
 -- A span at hand with one more piece.
-use Rattle.std.proofs.Common.{◌≡◌, ℕ, ◌+◌, ◌≤◌, Bool, true, false, List, [], ◌∷◌, ◌++◌, length, map, Option, Some, None, refl, sym, ap, subst, ◌∙◌, append-nil, arith}
-use Rattle.std.specs.Prelude.{nat_le, not, ◌&&◌, ◌||◌, is_some, is_none, All, if◌then◌else◌}
+use Rattle.std.proofs.Common.{◌≡◌, ℕ, ◌+◌, ◌≤◌, Bool, true, false, List, [], ◌∷◌, ◌++◌, length, map, Option, refl, sym, ap, subst, ◌∙◌, append-nil, arith}
+use Rattle.std.specs.Prelude.{nat_le, not, ◌&&◌, ◌||◌, is_none, All, if◌then◌else◌}
 use Rattle.std.specs.Option.{option_map}
 use Rattle.std.proofs.lemmas.Bool.{lt-leb, leb-false}
 use Rattle.std.proofs.lemmas.List.{length-append, map-append}
@@ -21,32 +21,14 @@ use Rattle.m2v_law_seam.proofs.Told.{pictures_append, units_one}
 use Rattle.m2v_mend.specs.declared.member.Member.{Member}
 use Rattle.m2v_mend.specs.declared.parts.SpanParts.{SpanParts}
 use Rattle.m2v_mend.specs.Strand.{wholes_of, AreInTurn}
-use Rattle.m2v_mend.specs.Kept.{bytes_of_members, head_kept, kept_of}
-use Rattle.m2v_mend.specs.Members.{IsMember, pieces_of, HasZeros, IsSpan}
-use Rattle.m2v_mend.proofs.Parting.{bodies_append}
-
--- ---- heads
-
-pub none_there : (o : Option (List ℕ)) → is_some o ≡ false → None ≡ o
-none_there None e = refl
-none_there (Some x) e = absurd cc
-
-pub some_there : (o : Option (List ℕ)) (b : Bool) → b ≡ false → not b ≡ is_some o → is_some o ≡ true
-some_there o b off e = sym e ∙ ap not off
+use Rattle.m2v_mend.specs.Kept.{head_kept, kept_of, pieces_of, bodies}
+use Rattle.m2v_mend.specs.Members.{IsMember, HasZeros, IsSpan}
+use Rattle.m2v_mend.proofs.Parting.{bodies_append, bodies_length}
 
 -- ---- how many bytes are kept
 
-pub members_are : (ms : List Member) → bytes_of_members ms ≡ wholes_of (pieces_of ms)
-members_are [] = refl
-members_are (m ∷ ms) = ap (λ (l : List (List ℕ)). whole_of m.piece ∷ l) (members_are ms)
-
-pub members_more : (ms : List Member) (m : Member) → bytes_of_members (ms ++ m ∷ []) ≡ bytes_of_members ms ++ whole_of m.piece ∷ []
-members_more [] m = refl
-members_more (n ∷ ms) m = ap (λ (l : List (List ℕ)). whole_of n.piece ∷ l) (members_more ms m)
-
-members_some : (ms : List Member) → 1 ≤ length ms → 1 ≤ length (bytes_of_members ms)
-members_some [] le = absurd (omega (arith, le))
-members_some (m ∷ ms) le = omega arith
+members_some : (ms : List Member) → 1 ≤ length ms → 1 ≤ length (bodies ms)
+members_some ms le = omega (arith, le, bodies_length ms)
 
 own_more : (ps : List (List ℕ)) (w : List ℕ) → 1 ≤ length ps → has_own_head (ps ++ w ∷ []) ≡ has_own_head ps
 own_more [] w le = absurd (omega (arith, le))
@@ -69,16 +51,16 @@ kept_more head ps w le =
     let all : length (joined (map trimmed (ps ++ w ∷ []))) ≡ length (joined (map trimmed ps)) + length (trimmed w) = ap (λ (l : List (List ℕ)). length (joined l)) (map-append trimmed ps (w ∷ [])) ∙ joined_more (map trimmed ps) (trimmed w) in
     omega (arith, own, all)
 
-pub kept_with : (head : Option (List ℕ)) (ms : List Member) (m : Member) → 1 ≤ length ms → kept_of head (bytes_of_members (ms ++ m ∷ [])) ≡ kept_of head (bytes_of_members ms) + length (trimmed (whole_of m.piece))
-kept_with head ms m le = ap (kept_of head) (members_more ms m) ∙ kept_more head (bytes_of_members ms) (whole_of m.piece) (members_some ms le)
+pub kept_with : (head : Option (List ℕ)) (ms : List Member) (m : Member) → 1 ≤ length ms → kept_of head (bodies (ms ++ m ∷ [])) ≡ kept_of head (bodies ms) + length (trimmed (whole_of m.piece))
+kept_with head ms m le = ap (kept_of head) (bodies_append ms (m ∷ [])) ∙ kept_more head (bodies ms) (whole_of m.piece) (members_some ms le)
 
-pub kept_on : (head : Option (List ℕ)) (ms new : List Member) (m : Member) (old kept : ℕ) → 1 ≤ length ms → new ≡ ms ++ m ∷ [] → old ≡ kept_of head (bytes_of_members ms) → kept ≡ old + length (trimmed (whole_of m.piece))
-    → kept ≡ kept_of head (bytes_of_members new)
+pub kept_on : (head : Option (List ℕ)) (ms new : List Member) (m : Member) (old kept : ℕ) → 1 ≤ length ms → new ≡ ms ++ m ∷ [] → old ≡ kept_of head (bodies ms) → kept ≡ old + length (trimmed (whole_of m.piece))
+    → kept ≡ kept_of head (bodies new)
 kept_on head ms new m old kept some items is more =
     more
     ∙ ap (λ (n : ℕ). n + length (trimmed (whole_of m.piece))) is
     ∙ sym (kept_with head ms m some)
-    ∙ ap (λ (l : List Member). kept_of head (bytes_of_members l)) (sym items)
+    ∙ ap (λ (l : List Member). kept_of head (bodies l)) (sym items)
 
 pub some_more : (ms new : List Member) (m : Member) → new ≡ ms ++ m ∷ [] → 1 ≤ length new
 some_more ms new m items = omega (arith, ap length items, length-append ms (m ∷ []))
@@ -90,7 +72,7 @@ members_on ms new m false all is none more = subst (All IsMember) (sym (more ref
 -- of a single piece
 pub kept_one : (head : Option (List ℕ)) (m : Member) (own : Bool) (of_head of_piece kept : ℕ) → own ≡ has_sequence (units_of (whole_of m.piece))
     → of_head ≡ (if own then 0 else length (bytes_or_none head)) → of_piece ≡ length (trimmed (whole_of m.piece)) → kept ≡ of_head + of_piece
-    → kept ≡ kept_of head (bytes_of_members (m ∷ []))
+    → kept ≡ kept_of head (bodies (m ∷ []))
 kept_one head m own of_head of_piece kept e h p k =
     let same : of_head ≡ head_kept head (whole_of m.piece ∷ []) = h ∙ ap (λ (b : Bool). if b then 0 else length (bytes_or_none head)) e in
     let all : length (joined (trimmed (whole_of m.piece) ∷ [])) ≡ length (trimmed (whole_of m.piece)) = ap length (append-nil (trimmed (whole_of m.piece))) in
@@ -169,7 +151,7 @@ turn_more at (n ∷ ms) m are e =
 
 pub span_one : (s : Span) (x : SpanParts) (m : Member) → IsMember m → HasZeros m → s.pieces ≡ whole_of m.piece ∷ [] → x.members.items ≡ m ∷ []
     → x.place ≡ m.piece.place → s.place ≡ m.piece.place → option_map (λ v. v.items) x.head ≡ s.head → x.bytes ≡ m.piece.length → x.pictures ≡ m.info.pictures
-    → x.entry ≡ is_entry (whole_of m.piece) → x.kept ≡ kept_of (option_map (λ v. v.items) x.head) (bytes_of_members (m ∷ []))
+    → x.entry ≡ is_entry (whole_of m.piece) → x.kept ≡ kept_of (option_map (λ v. v.items) x.head) (bodies (m ∷ []))
     → x.long ≡ (false || (not (is_none (limit 0 0 (whole_of m.piece))) || not (nat_le x.kept most_span)))
     → IsSpan s x
 unfolding units_in
@@ -214,8 +196,8 @@ module _ (s : Span) (old new : SpanParts) (m : Member) (kept : ℕ) (long : Bool
   kept_before : old.long ≡ false → old.kept ≡ kept_of s.head s.pieces
   kept_before off =
       old.kept_is off
-      ∙ ap (λ (h : Option (List ℕ)). kept_of h (bytes_of_members old.members.items)) span.head
-      ∙ ap (kept_of s.head) (members_are old.members.items ∙ span.pieces off)
+      ∙ ap (λ (h : Option (List ℕ)). kept_of h (bodies old.members.items)) span.head
+      ∙ ap (kept_of s.head) (span.pieces off)
 
   long_by : (b : Bool) → old.long ≡ b → long ≡ not (is_short (with_piece s w))
   long_by true e =

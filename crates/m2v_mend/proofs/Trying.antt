@@ -22,24 +22,17 @@ use Rattle.m2v_mend.specs.declared.member.Member.{Member}
 use Rattle.m2v_mend.specs.declared.parts.SpanParts.{SpanParts}
 use Rattle.m2v_mend.specs.declared.refusal.Refusal.{Refusal}
 use Rattle.m2v_mend.specs.declared.refusal.Refusal.TheVariants as refusals
-use Rattle.m2v_mend.specs.Members.{pieces_of, IsSpan, IsOfStretch}
-use Rattle.m2v_mend.specs.Strand.{StrandState, wholes_of, ends_of, bytes_in, IsAt, Told, course_of, Refused}
-use Rattle.m2v_mend.specs.Opening.{bodies, ends_opened, items_of, OpenedTold}
-use Rattle.m2v_mend.specs.Alone.{fault_as, course_at_start, IsRefusal, ReadTold, FaultOf, StrandTold}
+use Rattle.m2v_mend.specs.Kept.{pieces_of, bodies}
+use Rattle.m2v_mend.specs.Members.{IsSpan, IsOfStretch}
+use Rattle.m2v_mend.specs.Strand.{StrandState, wholes_of, ends_of, IsAt, Told, course_of, Refused}
+use Rattle.m2v_mend.specs.Opening.{ends_opened, items_of, OpenedTold}
+use Rattle.m2v_mend.specs.Alone.{course_at_start, IsRefusal, ReadTold, FaultOf, StrandTold}
+use Rattle.m2v_mend.specs.Making.{fault_told}
 use Rattle.m2v_mend.proofs.Parting.{wholes_append, ends_at, next_taken, ends_in_turn}
 use Rattle.m2v_mend.proofs.Standalone.{can_open}
 use Rattle.m2v_mend.proofs.SpanLaws.{fit_append, fit_one}
 
 -- ---- pieces one by one
-
-pub bytes_more : (ps : List Piece) (i : ℕ) (p : Piece) (n m : ℕ) → i < length ps → p ≡ get_or ps i p → n ≡ bytes_in (take i ps) → m ≡ n + p.length → m ≡ bytes_in (take (i + 1) ps)
-bytes_more ps i p n m lt is before e =
-    let sum = ap bytes_in (next_taken ps i p lt is) ∙ append_bytes (take i ps) p in
-    omega (arith, before, e, sum)
-  where
-    append_bytes : (qs : List Piece) (q : Piece) → bytes_in (qs ++ q ∷ []) ≡ bytes_in qs + q.length
-    append_bytes [] q = omega arith
-    append_bytes (x ∷ qs) q = let i = append_bytes qs q in omega (arith, i)
 
 pub fit_none : all_fit [] ≡ true
 unfolding all_fit
@@ -134,7 +127,7 @@ module _ (s : Span) (x : SpanParts) (is : IsSpan s x) (short : x.long ≡ false)
   good_by (Ok y) e = refl
   good_by (Err f) e = absurd cc
 
-  fault_is : (ps : List Piece) (r : Refusal) (f : Fault) → 1 ≤ length (wholes_of ps) → wholes_of ps ≡ opened_pieces s → ends_of ps ≡ ends_kept s → IsRefusal ps r → FaultOf x.place x.bytes r f → fault_as f ≡ fault_opened s
+  fault_is : (ps : List Piece) (r : Refusal) (f : Fault) → 1 ≤ length (wholes_of ps) → wholes_of ps ≡ opened_pieces s → ends_of ps ≡ ends_kept s → IsRefusal ps r → FaultOf x.place x.bytes r f → fault_told f ≡ fault_opened s
   fault_is ps refusals.Open f some whole ends r e =
       let end : 8 * (x.place + x.bytes) - 24 ≡ 8 * end_of_span s - 24 = ap (λ (n : ℕ). 8 * n - 24) (ap (λ (n : ℕ). n + x.bytes) is.place ∙ ap (λ (n : ℕ). s.place + n) is.bytes) in
       e ∙ ap (λ (n : ℕ). (Truncated, n)) end ∙ sym (open_by true _ (ap (λ (l : List (List ℕ)). last_open (units_of (joined l))) (sym whole) ∙ r) refl)

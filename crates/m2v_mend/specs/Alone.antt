@@ -14,7 +14,8 @@ use Rattle.m2v_law_seam.specs.Faults as faults
 use Rattle.m2v_mend.specs.declared.member.Member.{Member}
 use Rattle.m2v_mend.specs.declared.refusal.Refusal.{Refusal}
 use Rattle.m2v_mend.specs.declared.refusal.Refusal.TheVariants as refusals
-use Rattle.m2v_mend.specs.Opening.{bodies}
+use Rattle.m2v_mend.specs.Kept.{bodies}
+use Rattle.m2v_mend.specs.Making.{fault_told}
 use Rattle.m2v_mend.specs.Strand.{StrandState, wholes_of, ends_of, IsAt}
 
 -- ---- the first piece that has something
@@ -55,10 +56,6 @@ reference_from bytes place = (4 * byte_of bytes (place + 4) + byte_of bytes (pla
 
 -- ---- faults
 
--- a fault as the definitions have it
-abbrev pub fault_as : Fault → faults.Fault
-fault_as f = (f.kind, f.place)
-
 -- there is a header, the span is an entry, and its first picture is an I picture
 abbrev pub is_able : Span → Bool
 is_able s = has_head s && (begins_entry s.pieces && begins_kind 1 s.pieces)
@@ -66,12 +63,12 @@ is_able s = has_head s && (begins_entry s.pieces && begins_kind 1 s.pieces)
 -- it is so, or this is what is missing
 abbrev pub UnableTold : Span → Option Fault → Type 0
 UnableTold s None = (has_head s ≡ true) × (begins_entry s.pieces ≡ true) × (begins_kind 1 s.pieces ≡ true)
-UnableTold s (Some f) = (is_able s ≡ false) × (fault_as f ≡ (if not (has_head s) then (NoSequence, 8 * s.place) else (MissingReference, picture_place s)))
+UnableTold s (Some f) = (is_able s ≡ false) × (fault_told f ≡ (if not (has_head s) then (NoSequence, 8 * s.place) else (MissingReference, picture_place s)))
 
 -- no quant matrix extension stands in its leading pieces, or that is the fault
 abbrev pub LeadingTold : Span → Option Fault → Type 0
 LeadingTold s None = has_matrices (units_in (leading s.pieces)) ≡ false
-LeadingTold s (Some f) = (has_matrices (units_in (leading s.pieces)) ≡ true) × (fault_as f ≡ (Unsupported, matrices_place s))
+LeadingTold s (Some f) = (has_matrices (units_in (leading s.pieces)) ≡ true) × (fault_told f ≡ (Unsupported, matrices_place s))
 
 -- what else is asked of a span with which a strand begins
 abbrev pub can_begin : Option Sequence → Span → Bool
@@ -88,7 +85,7 @@ fault_read s =
 -- agrees
 abbrev pub TriedTold : Option Sequence → Span → List Piece → List Piece → Result StrandState Fault → Type 0
 TriedTold first s old new (Ok z) = (can_begin first s ≡ true) × IsAt z (opened s) × (z.opening ≡ false) × (joined (wholes_of new) ≡ joined (wholes_of old) ++ opened s)
-TriedTold first s old new (Err f) = (can_begin first s ≡ false) × (fault_as f ≡ fault_read s) × (new ≡ old)
+TriedTold first s old new (Err f) = (can_begin first s ≡ false) × (fault_told f ≡ fault_read s) × (new ≡ old)
 
 -- the fault with that of a header that doesn't agree before it
 abbrev pub fault_headed : Option Sequence → Span → faults.Fault → faults.Fault
@@ -116,10 +113,10 @@ ReadTold first ps (Err x) = (is_strand false first (joined (wholes_of ps)) ≡ f
 
 -- the fault of a span that begins at a byte and has so many
 abbrev pub FaultOf : ℕ → ℕ → Refusal → Fault → Type 0
-FaultOf place bytes refusals.Open f = fault_as f ≡ (Truncated, 8 * (place + bytes) - 24)
-FaultOf place bytes (refusals.Fault x) f = fault_as f ≡ (x.kind, max (8 * place) x.place)
-FaultOf place bytes (refusals.Rule at) f = fault_as f ≡ (MissingReference, 8 * place)
-FaultOf place bytes refusals.Other f = fault_as f ≡ (MissingReference, 8 * place)
+FaultOf place bytes refusals.Open f = fault_told f ≡ (Truncated, 8 * (place + bytes) - 24)
+FaultOf place bytes (refusals.Fault x) f = fault_told f ≡ (x.kind, max (8 * place) x.place)
+FaultOf place bytes (refusals.Rule at) f = fault_told f ≡ (MissingReference, 8 * place)
+FaultOf place bytes refusals.Other f = fault_told f ≡ (MissingReference, 8 * place)
 
 -- the pieces are a strand and within the limits, and were put behind others; or not, and this is the fault
 abbrev pub StrandTold : Option Sequence → Span → List Piece → List Piece → Result StrandState Fault → Type 0
@@ -128,4 +125,4 @@ StrandTold first s old new (Ok z) =
     × (joined (wholes_of new) ≡ joined (wholes_of old) ++ opened s)
 StrandTold first s old new (Err f) =
     ((all_fit (opened_pieces s) && is_strand false first (opened s)) ≡ false)
-    × (fault_as f ≡ (if not (all_fit (opened_pieces s)) then (Unsupported, 8 * s.place) else fault_opened s)) × (new ≡ old)
+    × (fault_told f ≡ (if not (all_fit (opened_pieces s)) then (Unsupported, 8 * s.place) else fault_opened s)) × (new ≡ old)

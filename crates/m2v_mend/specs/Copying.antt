@@ -11,12 +11,6 @@ use Rattle.m2v_law_seam.specs.Seams.{lowered}
 use Rattle.m2v_mend.specs.declared.refusal.Refusal.{Refusal}
 use Rattle.m2v_mend.specs.declared.refusal.Refusal.TheVariants as refusals
 
--- a piece with the bytes and the place of another
-pub record IsSame (old new : Piece) : Type 0 where
-  pub bytes : whole_of new ≡ whole_of old
-  pub place : new.place ≡ old.place
-  pub length_is : new.length ≡ old.length
-
 -- the units that are put behind a strand: behind one with a byte all of them, else those from the first sequence header on
 abbrev pub units_behind : Bool → Units → Units
 units_behind true us = us

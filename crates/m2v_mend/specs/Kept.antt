@@ -2,9 +2,10 @@
 use Rattle.std.specs.Prelude.{◌≡◌, ◌≢◌, ℕ, ◌+◌, ◌-◌, ◌<◌, ◌≤◌, List, [], ◌∷◌, length, map, drop, replicate, slice_index, Option, if◌then◌else◌}
 use Rattle.m2v_model.specs.Units.{joined}
 use Rattle.m2v_model.specs.Pieces.{trimmed}
-use Rattle.m2v_decode.specs.Decoding.{whole_of}
+use Rattle.m2v_decode.specs.m2v_dec_piece.declared.answer.Piece.{Piece}
 use Rattle.m2v_law_seam.specs.Seams.{has_own_head, bytes_or_none}
 use Rattle.m2v_mend.specs.declared.member.Member.{Member}
+use Rattle.m2v_mend.specs.Strand.{wholes_of}
 
 -- so many bytes stand before the zero bytes at the end
 pub record IsUpToZeros (bytes : List ℕ) (n : ℕ) : Type 0 where
@@ -12,10 +13,14 @@ pub record IsUpToZeros (bytes : List ℕ) (n : ℕ) : Type 0 where
   pub zeros : drop n bytes ≡ replicate (length bytes - n) 0
   pub last : 0 < n → slice_index bytes (n - 1) ≢ 0
 
--- the bytes of pieces
-abbrev pub bytes_of_members : List Member → List (List ℕ)
-bytes_of_members [] = []
-bytes_of_members (m ∷ ms) = whole_of m.piece ∷ bytes_of_members ms
+-- pieces without what they tell
+abbrev pub pieces_of : List Member → List Piece
+pieces_of [] = []
+pieces_of (m ∷ ms) = m.piece ∷ pieces_of ms
+
+-- their bytes
+abbrev pub bodies : List Member → List (List ℕ)
+bodies ms = wholes_of (pieces_of ms)
 
 -- how many bytes of a head that isn't their own pieces may need
 abbrev pub head_kept : Option (List ℕ) → List (List ℕ) → ℕ

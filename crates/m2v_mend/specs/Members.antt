@@ -2,7 +2,6 @@
 use Rattle.std.specs.Prelude.{◌≡◌, ℕ, ◌≤◌, false, not, All, List, [], ◌∷◌, ◌++◌, length, Option, Some, None}
 use Rattle.std.specs.Option.{option_map}
 use Rattle.m2v_model.specs.Units.{Units, joined, AreUnits}
-use Rattle.m2v_decode.specs.m2v_dec_piece.declared.answer.Piece.{Piece}
 use Rattle.m2v_decode.specs.m2v_dec_piece.Sound.{IsSoundPiece}
 use Rattle.m2v_decode.specs.Decoding.{whole_of}
 use Rattle.m2v_law_seam.specs.Spans.{units_of, units_in, picture_count, is_entry, Span}
@@ -13,6 +12,7 @@ use Rattle.m2v_law_seam.specs.Reading.{BeginsSequence, IsPieceOfUnits}
 use Rattle.m2v_mend.specs.declared.member.Member.{Member}
 use Rattle.m2v_mend.specs.declared.parts.SpanParts.{SpanParts}
 use Rattle.m2v_mend.specs.Editing.{IsUnits, EndsInZeros, zeros_in}
+use Rattle.m2v_mend.specs.Kept.{pieces_of}
 use Rattle.m2v_mend.specs.Telling.{IsInfo}
 use Rattle.m2v_mend.specs.Strand.{wholes_of, AreInTurn}
 
@@ -21,11 +21,6 @@ pub record IsMember (m : Member) : Type 0 where
   pub sound : IsSoundPiece m.piece
   pub units : IsUnits m.piece
   pub info : IsInfo (units_of (whole_of m.piece)) m.info
-
--- their pieces
-abbrev pub pieces_of : List Member → List Piece
-pieces_of [] = []
-pieces_of (m ∷ ms) = m.piece ∷ pieces_of ms
 
 -- zero bytes enough are kept of a piece that its group header can be marked
 abbrev pub HasZeros : Member → Type 0

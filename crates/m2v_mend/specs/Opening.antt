@@ -14,14 +14,10 @@ use Rattle.m2v_law_seam.specs.Strands.{all_fit}
 use Rattle.m2v_mend.specs.declared.member.Member.{Member}
 use Rattle.m2v_mend.specs.declared.opening.Shape.{Shape}
 use Rattle.m2v_mend.specs.Editing.{IsUnits}
-use Rattle.m2v_mend.specs.Members.{pieces_of}
+use Rattle.m2v_mend.specs.Kept.{pieces_of, bodies}
 use Rattle.m2v_mend.specs.Strand.{wholes_of, ends_of}
 
 -- ---- how the pieces of a span are parted
-
--- the bytes of pieces
-abbrev pub bodies : List Member → List (List ℕ)
-bodies ms = wholes_of (pieces_of ms)
 
 -- so many stand in the first frame
 pub record IsFrame (ms : List Member) (n : ℕ) : Type 0 where

@@ -1,16 +1,19 @@
 //! What the pieces of a span tell of a strand that would begin with it, and its faults.
-ghost use Rattle.std.specs.Prelude.{◌≡◌, ◌+◌, ◌*◌, ◌/◌, ◌%◌, ◌&&◌, true, false, All, IfOk, option_copied, length};
+ghost use Rattle.std.specs.Prelude.{◌≡◌, ◌+◌, ◌*◌, ◌&&◌, true, false, All, IfOk, option_copied, length};
 ghost use Rattle.m2v_model.specs.Units.{joined};
 ghost use Rattle.m2v_law_seam.specs.Spans.{units_in, picture_count, begins_kind, Span};
+ghost use Rattle.m2v_law_seam.specs.Seams.{has_own_head};
 ghost use Rattle.m2v_law_seam.specs.Seams as seams;
 ghost use Rattle.m2v_law_seam.specs.Faults.{has_head};
 ghost use Rattle.m2v_mend.specs.Members.{IsMember, IsOfStretch, IsSpan};
-ghost use Rattle.m2v_mend.specs.Opening.{bodies, IsShape};
+ghost use Rattle.m2v_mend.specs.Kept.{bodies};
+ghost use Rattle.m2v_mend.specs.Opening.{IsShape};
 ghost use Rattle.m2v_mend.specs.Putting.{IsLeading};
 ghost use Rattle.m2v_mend.specs.Alone.{PictureTold, MatricesTold, UnableTold, LeadingTold, reference_from, byte_of};
 
 use crate::Memory;
 use crate::begin::Leading;
+use crate::edits::reference_of;
 use crate::member::Member;
 use crate::opening::Shape;
 use crate::parts::SpanParts;
@@ -73,19 +76,25 @@ fn fault_in(kind: FaultKind, piece: &Piece, place: u64) -> Result<Fault, Memory>
     fault_at(kind, sum(piece.place, place)?)
 }
 
+/// A span begins with a sequence header.
+pub(crate) fn begins_with_header(parts: &SpanParts) -> bool
+    requires members { All IsMember parts.now.members.items }
+    ensures { (s : Span) → IsSpan s parts.now → parts.now.long ≡ false
+        → result ≡ has_own_head s.pieces }
+{
+    match parts.members.first() {
+        None => false,
+        Some(member) => member.info.sequence,
+    }
+}
+
 /// Whether there is a sequence header with which a strand could begin.
 fn is_headed(parts: &SpanParts) -> bool
     requires { All IsMember parts.now.members.items }
     ensures { (s : Span) → IsSpan s parts.now → parts.now.long ≡ false → IsOfStretch s
         → result ≡ has_head s }
 {
-    if parts.head.is_some() {
-        return true;
-    }
-    match parts.members.first() {
-        Some(first) => first.info.sequence,
-        None => false,
-    }
+    begins_with_header(parts) || parts.head.is_some()
 }
 
 /// Both hold.
@@ -134,13 +143,6 @@ fn byte_at(bytes: &[u8], at: usize) -> u8
     ensures { result ≡ byte_of bytes.now at }
 {
     if at < bytes.len() { bytes[at] } else { 0 }
-}
-
-/// The temporal reference in two bytes.
-fn reference_of(high: u8, low: u8) -> u32
-    ensures { result ≡ (4 * high + low / 64) % 1024 }
-{
-    (4 * u32::from(high) + u32::from(low) / 64) % 1024
 }
 
 /// The temporal reference of a picture unit that begins at a byte of a piece.

@@ -1,5 +1,5 @@
 //! A strand that begins with a span.
-ghost use Rattle.std.specs.Prelude.{◌≡◌, ◌≤◌, ◌^◌, All, IfOk, [], true, false};
+ghost use Rattle.std.specs.Prelude.{◌≡◌, All, IfOk, [], true, false};
 ghost use Rattle.m2v_decode.specs.m2v_dec_piece.Sound.{IsSoundPiece};
 ghost use Rattle.m2v_law_seam.specs.Spans.{Span};
 ghost use Rattle.m2v_law_seam.specs.Seams as seams;
@@ -10,20 +10,21 @@ ghost use Rattle.m2v_mend.specs.Alone.{ReadTold, FaultOf, StrandTold, TriedTold}
 ghost use Rattle.m2v_mend.specs.Members.{IsMember, IsOfStretch, IsSpan};
 ghost use Rattle.m2v_mend.specs.Opening.{IsShape};
 ghost use Rattle.m2v_mend.specs.Putting.{BeginTold};
-ghost use Rattle.m2v_mend.specs.Strand.{IsReady, bytes_in, wholes_of};
+ghost use Rattle.m2v_mend.specs.Strand.{IsReady, wholes_of};
 
 use crate::Memory;
 use crate::alone::{bits, fault_at, first_reference, leading_of, matrices_fault, unable};
+use crate::copies::bytes_of;
 use crate::header::refused;
 use crate::limits::fits;
 use crate::opening::{Shape, opened, shape_of};
 use crate::parts::SpanParts;
 use crate::refusal::Refusal;
 use crate::strand::Strand;
-use crate::sums::sum;
+use crate::sums::{counted, sum};
 use m2v_decode::{Fault, Piece};
 use m2v_model::{FaultKind, Sequence};
-use std::alloc::{AllocError, Global};
+use std::alloc::Global;
 
 /// The leading pieces of a span, which are left out where a strand begins with it: whether there are some, how many bytes
 /// stand before them, how many they have, and how many picture units.
@@ -41,24 +42,6 @@ pub struct Begun {
     pub strand: Strand,
     pub low: u32,
     pub leading: Leading,
-}
-
-/// The most bytes that pieces may have which are read as a strand.
-const MOST: u64 = 1 << 60;
-
-/// How many bytes pieces have; no input has more than 2^36.
-fn bytes_of(pieces: &[Piece]) -> Result<u64, Memory>
-    ensures value { IfOk result (λ n. n ≡ bytes_in pieces.now) }
-    ensures most { IfOk result (λ n. n ≤ 2 ^ 60) }
-{
-    let mut bytes = 0;
-    for piece in pieces {
-        bytes = sum(bytes, piece.length)?;
-    }
-    if bytes > MOST {
-        return Err(AllocError);
-    }
-    Ok(bytes)
 }
 
 /// Whether pieces are within the limits of pieces.
@@ -106,8 +89,8 @@ fn read(
         → ReadTold first.now pieces.now o) }
     ensures ready { IfOk result (λ o. IfOk o IsReady) }
 {
-    let _bytes = bytes_of(pieces)?;
     let mut strand = Strand::another(alloc);
+    let _total = counted(strand.bytes(), bytes_of(pieces)?)?;
     match strand.read(alloc, first, pieces)? {
         None => Ok(Ok(strand)),
         Some(refusal) => Ok(Err(refusal)),

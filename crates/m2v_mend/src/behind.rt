@@ -1,5 +1,5 @@
 //! A span behind a strand.
-ghost use Rattle.std.specs.Prelude.{◌≡◌, ◌+◌, ◌^◌, ◌≤◌, ℕ, All, IfOk, List, None, false};
+ghost use Rattle.std.specs.Prelude.{◌≡◌, ◌^◌, ◌≤◌, ℕ, All, IfOk, List, None, false};
 ghost use Rattle.m2v_law_seam.specs.Spans.{Span};
 ghost use Rattle.m2v_mend.specs.Copying.{fault_by};
 ghost use Rattle.m2v_mend.specs.Members.{IsMember, IsOfStretch, IsSpan};
@@ -11,25 +11,10 @@ use crate::copies::{bytes_of, copies};
 use crate::parts::SpanParts;
 use crate::refusal::Refusal;
 use crate::strand::Strand;
-use crate::sums::sum;
+use crate::sums::counted;
 use m2v_decode::{Fault, Piece};
 use m2v_model::{FaultKind, Sequence};
-use std::alloc::{AllocError, Global};
-
-/// The most that is counted, far more than an input has.
-const MOST: u64 = 1 << 60;
-
-/// A count of bytes that can be told in bits.
-fn counted(a: u64, b: u64) -> Result<u64, Memory>
-    ensures value { IfOk result (λ s. s ≡ a + b) }
-    ensures most { IfOk result (λ s. s ≤ 2 ^ 60) }
-{
-    let both = sum(a, b)?;
-    if both > MOST {
-        return Err(AllocError);
-    }
-    Ok(both)
-}
+use std::alloc::Global;
 
 /// The fault of a span that ends at a byte of the input, by why it doesn't go behind a strand, and how many bytes it has with
 /// those of the strand.

@@ -4,32 +4,19 @@ ghost use Rattle.m2v_decode.specs.m2v_dec_piece.Sound.{IsSoundPiece};
 ghost use Rattle.m2v_decode.specs.Decoding.{whole_of};
 ghost use Rattle.m2v_law_group.specs.Groups.{has_sequence};
 ghost use Rattle.m2v_law_seam.specs.Spans.{units_of};
-ghost use Rattle.m2v_mend.specs.Copying.{IsSame, IsFront, IsCopy, AreCopies};
+ghost use Rattle.m2v_mend.specs.Copying.{IsFront, IsCopy, AreCopies};
 ghost use Rattle.m2v_mend.specs.Editing.{IsUnits};
-ghost use Rattle.m2v_mend.specs.Members.{IsMember, pieces_of};
+ghost use Rattle.m2v_mend.specs.Kept.{pieces_of};
+ghost use Rattle.m2v_mend.specs.Members.{IsMember};
 ghost use Rattle.m2v_mend.specs.Strand.{bytes_in};
 
 use crate::Memory;
 use crate::edits::{from_sequence_on, lower};
 use crate::member::Member;
+use crate::opening::copy;
 use crate::sums::sum;
 use m2v_decode::Piece;
 use std::alloc::Global;
-
-/// The same piece once more.
-fn same(alloc: Global, piece: &Piece) -> Result<Piece, Memory>
-    requires sound { IsSoundPiece piece.now }
-    ensures sound { IfOk result IsSoundPiece }
-    ensures same { IfOk result (IsSame piece.now) }
-{
-    let mut bytes = Vec::with_capacity(alloc, piece.bytes.len())?;
-    bytes.extend_from_slice(&piece.bytes)?;
-    Ok(Piece {
-        bytes,
-        place: piece.place,
-        length: piece.length,
-    })
-}
 
 /// Where a strand has no byte, what stands before the first sequence header of a piece is left out.
 fn from_header(piece: &mut Piece, begun: bool, sequence: bool) -> Result<(), Memory>
@@ -47,12 +34,12 @@ fn from_header(piece: &mut Piece, begun: bool, sequence: bool) -> Result<(), Mem
 }
 
 /// A copy of a piece, whose temporal references are lowered.
-fn copy(alloc: Global, member: &Member, begun: bool, low: u32) -> Result<Piece, Memory>
+fn copied(alloc: Global, member: &Member, begun: bool, low: u32) -> Result<Piece, Memory>
     requires { IsMember member.now }
     ensures sound { IfOk result IsSoundPiece }
     ensures copy { IfOk result (IsCopy begun low member.now.piece) }
 {
-    let mut piece = same(alloc, &member.piece)?;
+    let mut piece = copy(alloc, &member.piece)?;
     from_header(&mut piece, begun, member.info.sequence)?;
     lower(&mut piece, low);
     Ok(piece)
@@ -72,7 +59,7 @@ pub(crate) fn copies(
     let mut copies = Vec::new(alloc);
     let mut behind = begun;
     for member in members {
-        let piece = copy(alloc, member, behind, low)?;
+        let piece = copied(alloc, member, behind, low)?;
         copies.push(piece)?;
         behind = true;
     }

@@ -27,13 +27,20 @@ pub enum Edit {
     Mark,
 }
 
+/// The temporal reference in two bytes.
+pub(crate) fn reference_of(high: u8, low: u8) -> u32
+    ensures { result ≡ (4 * high + low / 64) % 1024 }
+{
+    (4 * u32::from(high) + u32::from(low) / 64) % 1024
+}
+
 /// A temporal reference that is lowered, by the two bytes in which it stands.
 fn lowered(high: u8, low: u8, by: u32) -> u32
     ensures value { result ≡ ((4 * high + low / 64) % 1024 + 1024 - by) % 1024 }
     ensures below { result < 1024 }
 {
-    let reference = 4 * u32::from(high) + u32::from(low) / 64;
-    (reference % 1024 + 1024).saturating_sub(by) % 1024
+    let reference = reference_of(high, low);
+    (reference + 1024).saturating_sub(by) % 1024
 }
 
 /// Whether the bytes of a unit are those of an I, P or B picture up to its type.

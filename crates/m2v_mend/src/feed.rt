@@ -1,7 +1,7 @@
 //! The pieces of an input's stretches, as they are read.
-ghost use Rattle.std.specs.Prelude.{◌≡◌, ◌+◌, ◌-◌, ◌*◌, ◌^◌, ◌≤◌, ◌<◌, length, take, drop, vec_len, true, false, IfOk, IfErr, IfSome, OnOk, IsErrOf, IfNone};
+ghost use Rattle.std.specs.Prelude.{◌≡◌, ◌+◌, ◌-◌, ◌^◌, ◌≤◌, ◌<◌, length, take, drop, vec_len, false, IfOk, IfErr, IfSome, OnOk, IsErrOf};
 ghost use Rattle.m2v_port.specs.Port.{Rose};
-ghost use Rattle.m2v_model.specs.Units.{cut, unit_bits};
+ghost use Rattle.m2v_model.specs.Units.{unit_bits};
 ghost use Rattle.m2v_decode.specs.m2v_dec_piece.Sound.{IsSoundPiece};
 ghost use Rattle.m2v_decode.specs.m2v_dec_piece.Cutting.{IsReading};
 ghost use Rattle.m2v_decode.specs.m2v_dec_piece.Stepping.{Stopped};

@@ -1,5 +1,5 @@
 //! What is kept of an input, piece by piece.
-ghost use Rattle.std.specs.Prelude.{◌≡◌, ℕ, ◌+◌, ◌≤◌, ◌++◌, List, [], length, All, OnOk, IfOk, None};
+ghost use Rattle.std.specs.Prelude.{◌≡◌, ℕ, ◌+◌, ◌≤◌, ◌++◌, List, [], length, All, OnOk, None};
 ghost use Rattle.m2v_model.specs.Units.{joined};
 ghost use Rattle.m2v_decode.specs.m2v_dec_piece.Sound.{IsSoundPiece};
 ghost use Rattle.m2v_decode.specs.Decoding.{whole_of};

@@ -1,10 +1,10 @@
 //! The head of what follows: the last sequence header that was met, with the extension units right behind it.
-ghost use Rattle.std.specs.Prelude.{◌≡◌, ℕ, ◌+◌, ◌^◌, ◌<◌, ◌≤◌, ◌⊎◌, ◌++◌, ◌∷◌, [], true, false, length, is_some, OnOk, Some};
+ghost use Rattle.std.specs.Prelude.{◌≡◌, ◌+◌, ◌^◌, ◌<◌, ◌≤◌, ◌⊎◌, ◌++◌, [], true, false, length, is_some, OnOk, Some};
 ghost use Rattle.m2v_model.specs.Units.{Units};
 ghost use Rattle.m2v_decode.specs.Decoding.{whole_of};
 ghost use Rattle.m2v_dec_unit.specs.Texts.{text_of, IsZeroEnded};
 ghost use Rattle.m2v_law_group.specs.Groups.{from_last_sequence, is_sequence};
-ghost use Rattle.m2v_law_seam.specs.Spans.{units_of, head_of, is_extension, is_matrices};
+ghost use Rattle.m2v_law_seam.specs.Spans.{units_of, head_of, is_extension};
 ghost use Rattle.m2v_mend.specs.Editing.{IsWhole};
 ghost use Rattle.m2v_mend.specs.Heading.{IsHeads, IsBehind, IsAppended, IsLeftOut};
 ghost use Rattle.m2v_mend.specs.Members.{IsMember};
@@ -17,7 +17,7 @@ use m2v_dec_unit::Unit;
 use std::alloc::Global;
 
 /// The most bytes that a head has.
-const MOST: u64 = 4096;
+pub(crate) const MOST_HEAD: u64 = 4096;
 
 /// The last sequence header among the units that were taken: whether there is one, its bytes with those of the extension
 /// units right behind it, whether another extension unit would be one of these, and whether it can't be a head: it is too
@@ -61,7 +61,7 @@ impl Heads {
         if self.lost {
             return Ok(());
         }
-        if self.bytes.len() as u64 + kept.len() as u64 + zeros > MOST {
+        if self.bytes.len() as u64 + kept.len() as u64 + zeros > MOST_HEAD {
             self.lost = true;
             return Ok(());
         }

@@ -8,13 +8,15 @@ ghost use Rattle.m2v_law_seam.specs.Spans.{Span};
 ghost use Rattle.m2v_law_seam.specs.Faults.{only_header, header_by};
 ghost use Rattle.m2v_mend.specs.Members.{IsMember, IsOfStretch, IsSpan};
 ghost use Rattle.m2v_law_seam.specs.Faults as faults;
-ghost use Rattle.m2v_mend.specs.Alone.{fault_as, fault_headed};
+ghost use Rattle.m2v_mend.specs.Alone.{fault_headed};
+ghost use Rattle.m2v_mend.specs.Making.{fault_told};
 ghost use Rattle.m2v_mend.specs.Header.{IsFront, IsHeadPiece, HeaderTold, IsHeaded};
 
 use crate::Memory;
 use crate::agreeing::agrees;
 use crate::alone::fault_at;
 use crate::edits::from_sequence_on;
+use crate::head::MOST_HEAD;
 use crate::opening::copy;
 use crate::parts::SpanParts;
 use crate::walk::{EXTENSION, units};
@@ -93,13 +95,14 @@ fn header_in(alloc: Global, piece: &Piece) -> Result<Option<Sequence>, Memory>
 fn head_piece(alloc: Global, head: &[u8]) -> Result<Piece, Memory>
     ensures { IfOk result (IsHeadPiece head.now) }
 {
-    if head.is_empty() || head.len() > 4096 {
+    let length = head.len() as u64;
+    if length == 0 || length > MOST_HEAD {
         return Err(AllocError);
     }
     Ok(Piece {
         bytes: Vec::from_slice(alloc, head)?,
         place: 0,
-        length: head.len() as u64,
+        length,
     })
 }
 
@@ -155,7 +158,7 @@ pub(crate) fn refused(
 ) -> Result<Fault, Memory>
     requires { All IsMember parts.now.members.items }
     ensures { IfOk result (λ f. (s : Span) → IsSpan s parts.now → parts.now.long ≡ false
-        → IsOfStretch s → fault_as f ≡ fault_headed first.now s (fault_as fault)) }
+        → IsOfStretch s → fault_told f ≡ fault_headed first.now s (fault_told fault)) }
 {
     let header = header_of(alloc, parts)?;
     let own = header_in(alloc, &header.piece)?;

@@ -1,18 +1,16 @@
 //! What a piece tells without being decoded: which headers and pictures it has, and where they stand.
-ghost use Rattle.std.specs.Prelude.{◌≡◌, ℕ, List, [], ◌∷◌, nat_eq, ◌+◌, ◌-◌, ◌*◌, ◌/◌, ◌^◌, ◌<◌, ◌≤◌, ◌||◌, ◌&&◌, not, length};
-ghost use Rattle.m2v_model.specs.Units.{unit_bits, joined};
+ghost use Rattle.std.specs.Prelude.{◌≡◌, ℕ, List, [], ◌∷◌, nat_eq, ◌+◌, ◌-◌, ◌/◌, ◌^◌, ◌<◌, ◌≤◌, ◌||◌, ◌&&◌, length};
+ghost use Rattle.m2v_model.specs.Units.{joined};
 ghost use Rattle.m2v_decode.specs.m2v_dec_piece.Sound.{IsSoundPiece};
 ghost use Rattle.m2v_decode.specs.Decoding.{whole_of};
-ghost use Rattle.m2v_law_group.specs.Groups.{coded_pictures, is_picture};
+ghost use Rattle.m2v_law_group.specs.Groups.{coded_pictures};
 ghost use Rattle.m2v_law_seam.specs.Spans as spans;
 ghost use Rattle.m2v_law_seam.specs.Spans.{units_of, number_or, field_by, first_field};
 ghost use Rattle.m2v_law_seam.specs.Faults.{before_picture};
 ghost use Rattle.m2v_mend.specs.Gathering as gathering;
 ghost use Rattle.m2v_mend.specs.Telling.{IsInfo, IsCounted, first_kind, unit_or_none, pictures_with, place_with, counted_with};
 
-use crate::walk::{
-    EXTENSION, GROUP, PICTURE, SEQUENCE, is, matrices_seen, number_in, units, zeros_of,
-};
+use crate::walk::{EXTENSION, GROUP, PICTURE, SEQUENCE, is, matrices_seen, number_in, units};
 use m2v_dec_unit::{Unit, UnitReader};
 use m2v_decode::Piece;
 

@@ -1,12 +1,10 @@
 //! What is kept of an input, span by span.
-ghost use Rattle.std.specs.Prelude.{◌≡◌, ℕ, ◌*◌, ◌++◌, List, [], All, IfOk, OnOk, Option, None, Ok, false, length, if◌then◌else◌};
-ghost use Rattle.m2v_model.specs.declared.fault.FaultKind.TheVariants.{Unsupported};
+ghost use Rattle.std.specs.Prelude.{◌≡◌, ℕ, List, [], All, IfOk, OnOk, Option, None, Ok, false, length, if◌then◌else◌};
 ghost use Rattle.m2v_model.specs.Units.{joined};
 ghost use Rattle.m2v_law_seam.specs.Spans.{Span};
-ghost use Rattle.m2v_law_seam.specs.Seams.{has_own_head};
 ghost use Rattle.m2v_law_seam.specs.Faults.{fault_of};
 ghost use Rattle.m2v_law_seam.specs.Mending as mending;
-ghost use Rattle.m2v_law_seam.specs.Mending.{Mending, nothing_yet, strands_of, frames_shown, groups_behind, low_of_span, goes_behind, with_gap, gaps_leading, strand_begun, left_out, with_span, strand_ended};
+ghost use Rattle.m2v_law_seam.specs.Mending.{Mending, nothing_yet, strands_of, frames_shown, low_of_span, goes_behind, with_gap, gaps_leading, strand_begun, left_out, with_span, strand_ended};
 ghost use Rattle.m2v_mend.specs.Members.{IsMember, IsOfStretch, IsSpan};
 ghost use Rattle.m2v_mend.specs.Putting.{BeginTold, IsLeading};
 ghost use Rattle.m2v_mend.specs.Making.{StrandReady, IsMade, CanBeNext, fault_told, gap_told};
@@ -14,6 +12,7 @@ ghost use Rattle.m2v_mend.specs.Mender.{over, IsFirstGroup, WentOn, PutOrNot, Be
 ghost use Rattle.m2v_mend.specs.Strand.{IsReady};
 
 use crate::Memory;
+use crate::alone::{begins_with_header, fault_at};
 use crate::begin::{Begun, Leading, begin};
 use crate::behind::put_behind;
 use crate::edits::lowered_behind;
@@ -24,7 +23,7 @@ use crate::strand::Strand;
 use crate::sums::sum;
 use m2v_decode::{Fault, Piece};
 use m2v_model::{FaultKind, Sequence};
-use std::alloc::{AllocError, Global};
+use std::alloc::Global;
 
 /// What is made of the spans so far.
 #[derive(Drop)]
@@ -63,19 +62,7 @@ pub enum Behind {
     Long(Fault),
 }
 
-/// A span begins with a sequence header.
-fn begins_with_header(parts: &SpanParts) -> bool
-    requires members { All IsMember parts.now.members.items }
-    ensures { (s : Span) → IsSpan s parts.now → parts.now.long ≡ false
-        → result ≡ has_own_head s.pieces }
-{
-    match parts.members.first() {
-        None => false,
-        Some(member) => member.info.sequence,
-    }
-}
-
-/// Its first piece has a group header.
+/// The first piece of a span has a group header.
 fn begins_with_group(parts: &SpanParts) -> bool
     requires members { All IsMember parts.now.members.items }
     ensures { (s : Span) → IsSpan s parts.now → parts.now.long ≡ false
@@ -84,19 +71,6 @@ fn begins_with_group(parts: &SpanParts) -> bool
     match parts.members.first() {
         None => false,
         Some(member) => member.info.group,
-    }
-}
-
-/// The fault of a span that passes a limit.
-fn unsupported(place: u64) -> Result<Fault, Memory>
-    ensures { IfOk result (λ f. fault_told f ≡ (Unsupported, 8 * place)) }
-{
-    match place.checked_mul(8) {
-        Some(place) => Ok(Fault {
-            kind: FaultKind::Unsupported,
-            place,
-        }),
-        None => Err(AllocError),
     }
 }
 
@@ -266,7 +240,7 @@ impl Mender {
         let frames = self.frames_shown()?;
         let bytes = self.bytes_kept()?;
         if parts.long {
-            let fault = unsupported(parts.place)?;
+            let fault = fault_at(FaultKind::Unsupported, parts.place)?;
             self.end_with(frames, bytes);
             return Ok(Behind::Long(fault));
         }

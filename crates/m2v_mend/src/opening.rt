@@ -7,6 +7,7 @@ ghost use Rattle.m2v_mend.specs.Opening.{IsFrame, IsBehindFrame, IsShape, IsCopy
 
 use crate::Memory;
 use crate::edits::{from_sequence_on, lower, mark, with_head};
+use crate::head::MOST_HEAD;
 use crate::limits::kept_length;
 use crate::member::Member;
 use crate::walk::zeros_of;
@@ -15,9 +16,6 @@ use std::alloc::{AllocError, Global};
 
 /// The most bytes that are kept of a piece.
 const MOST: u64 = 2097216;
-
-/// The most bytes that a head has.
-const MOST_HEAD: u64 = 4096;
 
 /// How the pieces of a span are parted: how many the first frame has, and how many stand before those behind the leading
 /// ones.

@@ -10,7 +10,7 @@ ghost use Rattle.m2v_law_seam.specs.Spans.{head_of};
 ghost use Rattle.m2v_law_seam.specs.Seams.{bytes_or_none};
 ghost use Rattle.m2v_law_seam.specs.Strands.{most_span};
 ghost use Rattle.m2v_mend.specs.Heading.{IsHeads};
-ghost use Rattle.m2v_mend.specs.Kept.{bytes_of_members, kept_of};
+ghost use Rattle.m2v_mend.specs.Kept.{kept_of, bodies};
 
 use crate::Memory;
 use crate::head::Heads;
@@ -43,7 +43,7 @@ pub struct SpanParts {
     pub long: bool,
     ghost some: { long ≡ false → 1 ≤ length members.items },
     ghost kept_is: { long ≡ false
-        → kept ≡ kept_of (option_map (λ v. v.items) head) (bytes_of_members members.items) },
+        → kept ≡ kept_of (option_map (λ v. v.items) head) (bodies members.items) },
 }
 
 /// A copy of the head of what follows units, where there is one.

@@ -1,4 +1,4 @@
-ghost use Rattle.std.specs.Prelude.{◌≡◌, ◌≤◌};
+ghost use Rattle.std.specs.Prelude.{◌≡◌};
 ghost use Rattle.m2v_mend.specs.Strand.{note_stands, note_ends, note_anchors, broken_with, standing_with};
 
 use m2v_model::PictureNote;

@@ -5,6 +5,7 @@ ghost use Rattle.m2v_decode.specs.m2v_dec_piece.Sound.{IsSoundPiece};
 ghost use Rattle.m2v_decode.specs.Decoding.{whole_of};
 ghost use Rattle.m2v_mend.specs.Tail.{last_bits};
 
+use crate::walk::{units, zeros_of};
 use m2v_dec_unit::UnitReader;
 use m2v_decode::Piece;
 
@@ -38,12 +39,11 @@ pub(crate) fn is_open(piece: &Piece) -> bool
     requires { IsSoundPiece piece.now }
     ensures { result ≡ last_open (units_of (whole_of piece.now)) }
 {
-    let zeros = piece.length - piece.bytes.len() as u64;
-    if zeros > 0 {
+    if zeros_of(piece) > 0 {
         return false;
     }
     if !ends_in_prefix(&piece.bytes) {
         return false;
     }
-    56 <= last_bits(&mut UnitReader::new(&piece.bytes, zeros))
+    56 <= last_bits(&mut units(piece))
 }

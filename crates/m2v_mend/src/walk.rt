@@ -1,11 +1,11 @@
 //! The units of a piece, and what stands in them.
-ghost use Rattle.std.specs.Prelude.{◌≡◌, ◌+◌, ◌-◌, ◌*◌, ◌^◌, ◌<◌, ◌≤◌, ◌||◌, length, vec_len, min};
+ghost use Rattle.std.specs.Prelude.{◌≡◌, ◌+◌, ◌-◌, ◌*◌, ◌<◌, ◌≤◌, ◌||◌, length};
 ghost use Rattle.m2v_model.specs.Units.{unit_bits, body};
 ghost use Rattle.m2v_model.specs.Looking.{number_from};
 ghost use Rattle.m2v_decode.specs.m2v_dec_piece.Sound.{IsSoundPiece};
 ghost use Rattle.m2v_decode.specs.Decoding.{whole_of};
 ghost use Rattle.m2v_law_group.specs.Groups.{is_number};
-ghost use Rattle.m2v_law_seam.specs.Spans.{units_of, is_extension, is_matrices};
+ghost use Rattle.m2v_law_seam.specs.Spans.{units_of, is_matrices};
 ghost use Rattle.m2v_mend.specs.Editing.{zeros_in};
 
 use m2v_dec_unit::{Unit, UnitReader};

@@ -2,7 +2,7 @@ use Rattle.std.proofs.Common.{◌-◌, List, take, drop, length, refl, ap, ◌�
 use Rattle.m2v_model.specs.Units.{joined}
 use Rattle.m2v_law_seam.specs.Spans.{units_in, picture_count}
 use Rattle.m2v_mend.specs.declared.member.Member.{Member}
-use Rattle.m2v_mend.specs.Opening.{bodies}
+use Rattle.m2v_mend.specs.Kept.{bodies}
 use Rattle.m2v_mend.proofs.Firsts.{leading_is}
 use Rattle.m2v_mend.proofs.alone.leading_of.Goals as goal
 

@@ -3,7 +3,7 @@ use Rattle.std.proofs.lemmas.List.Elements.{All-take, All-drop}
 use Rattle.m2v_law_seam.specs.Spans.{units_in, has_matrices}
 use Rattle.m2v_mend.specs.declared.member.Member.{Member}
 use Rattle.m2v_mend.specs.Members.{IsMember}
-use Rattle.m2v_mend.specs.Opening.{bodies}
+use Rattle.m2v_mend.specs.Kept.{bodies}
 use Rattle.m2v_mend.specs.Alone.{HasFirstMatrices}
 use Rattle.m2v_mend.proofs.Firsts.{matrices_clear, matrices_told}
 use Rattle.m2v_mend.proofs.alone.matrices_fault.Goals as goal

@@ -1,6 +1,6 @@
 use Rattle.std.proofs.Common.{◌≡◌, take}
 use Rattle.m2v_law_seam.specs.Spans.{units_in, picture_count}
-use Rattle.m2v_mend.specs.Opening.{bodies}
+use Rattle.m2v_mend.specs.Kept.{bodies}
 use Rattle.m2v_mend.proofs.alone.pictures_of.Given as goal
 
 abbrev pub invariant-loop-member : goal.invariant-loop-member

@@ -1,7 +1,7 @@
 use Rattle.std.proofs.Common.{List, sym, subst, ap, ◌∙◌}
 use Rattle.m2v_law_seam.specs.Spans.{units_in, picture_count}
 use Rattle.m2v_mend.specs.declared.member.Member.{Member}
-use Rattle.m2v_mend.specs.Opening.{bodies}
+use Rattle.m2v_mend.specs.Kept.{bodies}
 use Rattle.m2v_mend.specs.Alone.{HasFirstPicture}
 use Rattle.m2v_mend.proofs.Firsts.{unable_none, able_told, unable_told}
 use Rattle.m2v_mend.proofs.alone.unable.Goals as goal
