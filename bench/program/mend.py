@@ -86,7 +86,8 @@ def others(data, frames):
             return 'ffmpeg shows %d bytes: %s' % (len(done.stdout), said)
     if shutil.which('mpeg2dec'):
         done = subprocess.run(['mpeg2dec', '-o', 'pgmpipe'], input=data, capture_output=True, check=False)
-        shown = done.stdout.count(b'P5\n%d %d\n255\n' % (WIDTH, HEIGHT * 3 // 2))
+        # its heights are those of macroblocks, of interlaced streams an even number of them
+        shown = len(re.findall(rb'P5\n%d \d+\n255\n' % WIDTH, done.stdout))
         if shown != frames:
             return 'mpeg2dec shows %d frames' % shown
     return None
