@@ -41,6 +41,7 @@ use Rattle.m2v_choose.specs.declared.vectors.FieldVector.{FieldVector}
 use Rattle.m2v_choose.specs.declared.vectors.Vectors.{Vectors}
 use Rattle.m2v_choose.specs.declared.task.Task.{Task}
 use Rattle.m2v_choose.specs.declared.bits.Headers.{Headers}
+use Rattle.m2v_choose.specs.declared.bits.KindBits.{KindBits}
 use Rattle.m2v_choose.specs.declared.coding.Uncoded.{Uncoded}
 use Rattle.m2v_choose.specs.declared.intra.Sums.{Sums}
 use Rattle.m2v_choose.specs.declared.scratch.FirstTransforms.{FirstTransforms}
@@ -258,6 +259,15 @@ IsHeader t m n = (q : ℕ) (dct_field : Bool) (pattern : ℕ) → 0 < pattern �
 -- the type of a macroblock that has a prediction, with coded blocks
 abbrev pub coded_kind : MbType → Bool → MbType
 coded_kind v send = record { quant = send; forward = v.forward; backward = v.backward; pattern = true; intra = v.intra }
+
+-- so many bits the types take
+pub record AreKinds (t : Task) (m : MacroSyntax) (k : KindBits) : Type 0 where
+  pub bare : k.bare ≡ length (kind_text t.context.now.kind m.kind)
+  pub kept : k.kept ≡ length (kind_text t.context.now.kind (coded_kind m.kind false))
+  pub sent : k.sent ≡ length (kind_text t.context.now.kind (coded_kind m.kind true))
+  pub most_bare : k.bare ≤ 17
+  pub most_kept : k.kept ≤ 17
+  pub most_sent : k.sent ≤ 17
 
 -- so many bits it has with blocks and without: its address, its motion type and its vectors
 unfoldable pub shared_length : PictureContext → SliceState → MacroSyntax → ℕ

@@ -1,11 +1,11 @@
 //! How many bits the codings of a prediction take: what stands before their patterns is counted once for all.
-ghost use Rattle.std.specs.Prelude.{◌≡◌, ◌+◌, ◌*◌, ◌^◌, ◌≤◌, ◌<◌, ◌⊎◌, cond, length};
-ghost use Rattle.m2v_vlc.specs.Tables.{pattern_code};
+ghost use Rattle.std.specs.Prelude.{◌≡◌, ◌+◌, ◌*◌, ◌^◌, ◌≤◌, ◌<◌, ◌⊎◌, true, cond, length};
+ghost use Rattle.m2v_vlc.specs.Tables.{pattern_code, type_i_code, type_p_code, type_b_code};
 ghost use Rattle.m2v_macro.specs.States.{after};
-ghost use Rattle.m2v_macro.specs.Texts.{kind_text};
+ghost use Rattle.m2v_recon.specs.Macro.{is_coded as is_coded_in};
 ghost use Rattle.m2v_macroblock.specs.Macroblocks.{macroblock_of};
 ghost use Rattle.m2v_macroblock.specs.Texts.{block_in_text, blocks_text};
-ghost use Rattle.m2v_choose.specs.Trials.{IsTask, CanCode, IsHeader, AreHeaders, AreCoded, has_types, coded_kind as coded_kind_of, shared_length, header_length, four_of, four_each as four_each_of};
+ghost use Rattle.m2v_choose.specs.Trials.{IsTask, CanCode, IsHeader, AreHeaders, AreCoded, AreKinds, has_types, coded_kind as coded_kind_of, shared_length, four_each as four_each_of};
 
 use crate::coding::{has_dct_type, with_blocks};
 use crate::task::Task;
@@ -25,20 +25,45 @@ pub struct Headers {
     pub sent: u32,
 }
 
-/// How many bits a macroblock_type takes, by the picture's type.
+/// How many bits the type takes of a macroblock that has a prediction.
+#[derive(Clone, Copy)]
+pub struct KindBits {
+    /// Without blocks.
+    pub bare: u32,
+    /// With coded blocks.
+    pub kept: u32,
+    /// With coded blocks and a quantiser.
+    pub sent: u32,
+}
+
+/// How many bits a macroblock_type takes in an I picture.
 #[inline(always)]
-#[tactic(auto, using(m2v_bits::proofs::Cursor::lengths), unfolding(m2v_macro::specs::Texts::kind_text))]
-fn kind_bits(kind: u8, v: MbType) -> u32
-    ensures value { result ≡ length (kind_text kind v) }
+#[tactic(auto, using(m2v_bits::proofs::Cursor::lengths))]
+fn bits_i(v: MbType) -> u32
+    ensures value { result ≡ length (type_i_code v) }
     ensures most { result ≤ 17 }
 {
-    if kind == 1 {
-        code_type_i(v).len as u32
-    } else if kind == 2 {
-        code_type_p(v).len as u32
-    } else {
-        code_type_b(v).len as u32
-    }
+    code_type_i(v).len as u32
+}
+
+/// And in a P picture.
+#[inline(always)]
+#[tactic(auto, using(m2v_bits::proofs::Cursor::lengths))]
+fn bits_p(v: MbType) -> u32
+    ensures value { result ≡ length (type_p_code v) }
+    ensures most { result ≤ 17 }
+{
+    code_type_p(v).len as u32
+}
+
+/// And in a B picture.
+#[inline(always)]
+#[tactic(auto, using(m2v_bits::proofs::Cursor::lengths))]
+fn bits_b(v: MbType) -> u32
+    ensures value { result ≡ length (type_b_code v) }
+    ensures most { result ≤ 17 }
+{
+    code_type_b(v).len as u32
 }
 
 /// How many bits a coded block pattern takes.
@@ -59,14 +84,6 @@ fn dct_bits(task: &Task) -> u32
     if has_dct_type(task.context) { 1 } else { 0 }
 }
 
-/// How many bits a quantiser takes, where it is sent.
-#[inline(always)]
-fn quantiser_bits(send: bool) -> u32
-    ensures { result ≡ cond send 5 0 }
-{
-    if send { 5 } else { 0 }
-}
-
 /// The same macroblock_type with coded blocks.
 #[inline(always)]
 fn coded_kind(v: MbType, send: bool) -> MbType
@@ -78,51 +95,62 @@ fn coded_kind(v: MbType, send: bool) -> MbType
     kind
 }
 
-/// How many bits of a prediction are the same with blocks and without: those of its address, its motion type and its vectors.
-pub fn shared_bits(task: &Task, bare: &MacroSyntax) -> u32
+/// How many bits the type of a prediction takes, by the picture's type.
+#[inline(always)]
+pub fn kind_bits(task: &Task, bare: &MacroSyntax) -> KindBits
+    ensures { AreKinds task.now bare.now result }
+{
+    let v = bare.kind;
+    let (kept, sent) = (coded_kind(v, false), coded_kind(v, true));
+    let kind = task.context.kind;
+    if kind == 1 {
+        return KindBits {
+            bare: bits_i(v),
+            kept: bits_i(kept),
+            sent: bits_i(sent),
+        };
+    }
+    if kind == 2 {
+        return KindBits {
+            bare: bits_p(v),
+            kept: bits_p(kept),
+            sent: bits_p(sent),
+        };
+    }
+    KindBits {
+        bare: bits_b(v),
+        kept: bits_b(kept),
+        sent: bits_b(sent),
+    }
+}
+
+/// How many bits of a prediction are the same with blocks and without: those of its address, its motion type and its
+/// vectors.
+#[inline(always)]
+pub fn shared_bits(task: &Task, bare: &MacroSyntax, kinds: &KindBits) -> u32
     requires task { IsTask task.now }
     requires code { CanCode task.now bare.now }
+    requires kinds { AreKinds task.now bare.now kinds.now }
     ensures value { result ≡ shared_length task.now.context.now task.now.state.now bare.now }
     ensures most { result ≤ 2 ^ 21 }
 {
     let coded = with_blocks(bare, false, task.state.quantiser, false, 63);
     let all = macro_bits(&coded, task.context, &task.first);
-    let own = kind_bits(task.context.kind, coded.kind) + dct_bits(task) + 6;
-    all - own
+    all - (kinds.kept + dct_bits(task) + 6)
 }
 
-/// How many bits a prediction takes without blocks, behind those that it shares.
+/// How many bits stand before the patterns of the codings of a prediction, of which it shares so many.
 #[inline(always)]
-pub fn bare_bits(task: &Task, bare: &MacroSyntax, shared: u32) -> u32
-    requires { shared ≤ 2 ^ 21 }
-    ensures { result ≡ shared + length (kind_text task.now.context.now.kind bare.now.kind) }
-{
-    shared + kind_bits(task.context.kind, bare.kind)
-}
-
-/// How many bits stand before the pattern of a coding, behind those that it shares.
-#[inline(always)]
-fn header_bits(task: &Task, bare: &MacroSyntax, shared: u32, send: bool) -> u32
-    requires value { shared ≡ shared_length task.now.context.now task.now.state.now bare.now }
-    requires most { shared ≤ 2 ^ 21 }
-    ensures value { result
-        ≡ header_length task.now.context.now task.now.state.now bare.now send }
-    ensures most { result ≤ 2 ^ 22 }
-{
-    let kind = kind_bits(task.context.kind, coded_kind(bare.kind, send));
-    shared + kind + dct_bits(task) + quantiser_bits(send)
-}
-
-/// The same with a quantiser and without.
-#[inline(always)]
-pub fn headers_of(task: &Task, bare: &MacroSyntax, shared: u32) -> Headers
+pub fn headers_of(task: &Task, bare: &MacroSyntax, kinds: &KindBits, shared: u32) -> Headers
+    requires kinds { AreKinds task.now bare.now kinds.now }
     requires value { shared ≡ shared_length task.now.context.now task.now.state.now bare.now }
     requires most { shared ≤ 2 ^ 21 }
     ensures { AreHeaders task.now bare.now result }
 {
+    let before = shared + dct_bits(task);
     Headers {
-        kept: header_bits(task, bare, shared, false),
-        sent: header_bits(task, bare, shared, true),
+        kept: before + kinds.kept,
+        sent: before + kinds.sent + 5,
     }
 }
 
@@ -178,21 +206,18 @@ fn further(bits: u32) -> u32
     bits - 4
 }
 
-/// How many bits a coded block takes more than four, and 0 of one that isn't coded.
+/// How many bits a coded block takes more than four.
 #[inline(always)]
 fn past_four(_task: &Task, syntax: &MacroSyntax, levels: &[Levels; 6], block: usize) -> u32
     requires block { block < 6 }
     requires coded { AreCoded syntax.now levels.now }
-    ensures value { result + four_of syntax.now.pattern block
-        ≡ length (block_in_text _task.now.context.now
+    requires one { is_coded_in syntax.now.pattern block ≡ true }
+    ensures value { result + 4 ≡ length (block_in_text _task.now.context.now
         (after _task.now.context.now _task.now.first syntax.now)
         (macroblock_of syntax.now levels.now) block) }
     ensures most { result ≤ 1538 }
 {
-    if is_coded(syntax.pattern, block as u32) {
-        return further(other_bits(&levels[block]));
-    }
-    0
+    further(other_bits(&levels[block]))
 }
 
 /// How many bits a coding takes, counted block by block as long as they cost less than a limit: `header` stand before its
@@ -216,10 +241,12 @@ pub fn bits_until(
 {
     let mut bits = header + four_each(syntax.pattern);
     for block in 0..6usize {
-        if bit_cost(task.limits, bits) >= limit {
-            return bits;
+        if is_coded(syntax.pattern, block as u32) {
+            if bit_cost(task.limits, bits) >= limit {
+                return bits;
+            }
+            bits += past_four(task, syntax, levels, block);
         }
-        bits += past_four(task, syntax, levels, block);
     }
     bits
 }

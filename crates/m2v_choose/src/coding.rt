@@ -257,7 +257,50 @@ impl Best {
         true
     }
 
-    /// Tries a prediction with coded blocks. `room` is for levels.
+    /// Tries a prediction with coded blocks. `room` is for levels. Never inlined, so that a coding that is left makes no room.
+    #[inline(never)]
+    fn try_reached(
+        &mut self,
+        task: &Task,
+        plain: &Uncoded,
+        transforms: &FarTransforms,
+        q: u8,
+        dct_field: bool,
+        room: &mut [Levels; 6],
+    )
+        requires task { IsTask task.now }
+        requires q { IsCode q }
+        requires dct { dct_field ≡ true → has_types task.now.context.now ≡ true }
+        requires bare { CanCode task.now plain.now.bare.now }
+        requires measured { IsMeasured task.now plain.now }
+        requires coefficients { All (All IsCoefficient) transforms.now.at.now }
+        requires far { AreFar transforms.now.at.now transforms.now.most.now }
+        ensures tried { (r : References) (p : Prediction)
+            → plain.now.bare.now ≡ uncoded_syntax (decided r task.now) p
+            → plain.now.prediction.now.at ≡ samples_by (decided r task.now) p
+            → HaveSame (2 * q) transforms.now.at.now
+            (transforms_of task.now.source.now.at plain.now.prediction.now.at dct_field)
+            → IsRated (decided r task.now) self.old
+            → Tried (decided r task.now) self.old self.new
+            (filter has_block (coded_by (decided r task.now) p
+            (record { q = q; dct_field = dct_field }) ∷ [])) }
+    {
+        // a coefficient that lies nearer to 0 has no level
+        let least = 2 * u32::from(q);
+        let kinds = kinds(task.context, false, q);
+        let pattern = quantise_blocks(transforms.at, &kinds, transforms.most, least, room);
+        if pattern == 0 {
+            return;
+        }
+        let send = sends(task, q);
+        let syntax = with_blocks(plain.bare, send, q, dct_field, pattern);
+        let header = bits_before(&plain.headers, send, pattern);
+        let still = still_squares(task, plain, dct_field, pattern);
+        self.try_written(task, &syntax, room, plain.prediction, header, still);
+    }
+
+    /// The same, but for a prediction that scores no less than the best so far, or that has no level.
+    #[inline(always)]
     fn try_coding(
         &mut self,
         task: &Task,
@@ -287,21 +330,10 @@ impl Best {
         if self.rules_out(task, plain, dct_field) {
             return;
         }
-        // a coefficient that lies nearer to 0 has no level
-        let least = 2 * u32::from(q);
-        if !reaches(transforms.most, least) {
+        if !reaches(transforms.most, 2 * u32::from(q)) {
             return;
         }
-        let kinds = kinds(task.context, false, q);
-        let pattern = quantise_blocks(transforms.at, &kinds, transforms.most, least, room);
-        if pattern == 0 {
-            return;
-        }
-        let send = sends(task, q);
-        let syntax = with_blocks(plain.bare, send, q, dct_field, pattern);
-        let header = bits_before(&plain.headers, send, pattern);
-        let still = still_squares(task, plain, dct_field, pattern);
-        self.try_written(task, &syntax, room, plain.prediction, header, still);
+        self.try_reached(task, plain, transforms, q, dct_field, room);
     }
 
     /// Tries a prediction by a quantiser, with both DCT types where the picture has them.

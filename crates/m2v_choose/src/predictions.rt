@@ -8,9 +8,9 @@ ghost use Rattle.m2v_macroblock.specs.Predictions.{prediction_of};
 ghost use Rattle.m2v_choose.specs.Decisions.{Prediction, uncoded_syntax, written, no_levels as no_levels_of};
 ghost use Rattle.m2v_choose.specs.Candidates.{prediction, predictions_by, samples_by, by_prediction};
 ghost use Rattle.m2v_choose.specs.Choice.{squared as squared_of};
-ghost use Rattle.m2v_choose.specs.Trials.{IsMeasured, IsAlone, coded_least, shared_length, has_types, References, decided, references_of, IsTask, IsRead, IsRated, Tried, Predicts, CanCode, CanPredict, CanTry, direction_by, moving_syntax as moving_syntax_of, place_for};
+ghost use Rattle.m2v_choose.specs.Trials.{IsMeasured, IsAlone, AreKinds, coded_least, shared_length, has_types, References, decided, references_of, IsTask, IsRead, IsRated, Tried, Predicts, CanCode, CanPredict, CanTry, direction_by, moving_syntax as moving_syntax_of, place_for};
 
-use crate::bits::{bare_bits, headers_of, least_header, shared_bits};
+use crate::bits::{KindBits, headers_of, kind_bits, least_header, shared_bits};
 use crate::coding::{Uncoded, field_squares, has_dct_type, least_score, sends, with_blocks};
 use crate::scratch::{CodingScratch, TrialScratch};
 use crate::squares::{part_squares, uncoded_squares};
@@ -92,11 +92,18 @@ pub fn predict_moving<V: RefView>(
 
 /// The bits of a prediction without blocks, where it may be without: `shared` it has with blocks too.
 #[inline(always)]
-fn count_alone(task: &Task, bare: &MacroSyntax, shared: u32, uncoded: bool) -> Option<u32>
+fn count_alone(
+    task: &Task,
+    bare: &MacroSyntax,
+    kinds: &KindBits,
+    shared: u32,
+    uncoded: bool,
+) -> Option<u32>
     requires task { IsTask task.now }
     requires code { CanCode task.now bare.now }
     requires stands { uncoded ≡ true → IsMacro task.now.context.now task.now.first bare.now }
     requires pattern { bare.now.pattern ≡ 0 }
+    requires kinds { AreKinds task.now bare.now kinds.now }
     requires value { shared ≡ shared_length task.now.context.now task.now.state.now bare.now }
     requires most { shared ≤ 2 ^ 21 }
     ensures some { is_some result ≡ uncoded }
@@ -105,7 +112,7 @@ fn count_alone(task: &Task, bare: &MacroSyntax, shared: u32, uncoded: bool) -> O
     if !uncoded {
         return None;
     }
-    Some(bare_bits(task, bare, shared))
+    Some(shared + kinds.bare)
 }
 
 /// The least that a prediction scores with coded blocks by DCT type 1, where the picture has it.
@@ -195,10 +202,11 @@ impl Best {
         let (mut frame, mut field) = ([0; 6], [0; 6]);
         part_squares(task.source, prediction, &mut frame);
         field_squares(task, prediction, &frame, &mut field);
-        let shared = shared_bits(task, bare);
-        let headers = headers_of(task, bare, shared);
+        let kinds = kind_bits(task, bare);
+        let shared = shared_bits(task, bare, &kinds);
+        let headers = headers_of(task, bare, &kinds, shared);
         let header = least_header(task, bare, &headers);
-        let alone = count_alone(task, bare, shared, uncoded);
+        let alone = count_alone(task, bare, &kinds, shared, uncoded);
         let plain = Uncoded {
             bare,
             prediction,

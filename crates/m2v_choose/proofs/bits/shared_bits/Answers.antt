@@ -6,14 +6,14 @@ use Rattle.m2v_macro.specs.declared.values.SliceState.{SliceState}
 use Rattle.m2v_macro.specs.Conditions.{IsMacro}
 use Rattle.m2v_macro.specs.Texts.{macro_text, kind_text}
 use Rattle.m2v_choose.specs.declared.task.Task.{Task}
-use Rattle.m2v_choose.specs.Trials.{IsTask, as_first, with_blocks, has_types, shared_length, header_length}
+use Rattle.m2v_choose.specs.Trials.{IsTask, as_first, with_blocks, coded_kind, has_types, shared_length, header_length}
 use Rattle.m2v_choose.proofs.OwnReady.{own_context}
 use Rattle.m2v_choose.proofs.Tried.{first_ready, first_address, same_macro}
 use Rattle.m2v_choose.proofs.Headers.{coded_length, all_six}
 use Rattle.m2v_choose.proofs.bits.shared_bits.Goals as goal
 
 shared_is : (t : Task) (m x : MacroSyntax) (all kind dct : ℕ) → IsTask t → m.increment ≡ t.increment → m.kind.intra ≡ false
-    → x ≡ with_blocks m false t.state.now.quantiser false 63 → all ≡ length (macro_text t.context.now t.first x) → kind ≡ length (kind_text t.context.now.kind x.kind)
+    → x ≡ with_blocks m false t.state.now.quantiser false 63 → all ≡ length (macro_text t.context.now t.first x) → kind ≡ length (kind_text t.context.now.kind (coded_kind m.kind false))
     → dct ≡ cond (has_types t.context.now) 1 0 → all ≡ shared_length t.context.now t.state.now m + (kind + dct + 6)
 unfolding header_length
 shared_is t m x all kind dct task own other same whole type types =
@@ -30,7 +30,6 @@ shared_is t m x all kind dct task own other same whole type types =
       coded_length c st m other false st.quantiser false 63,
       all_six,
       type,
-      ap (λ (z : MacroSyntax). length (kind_text c.kind z.kind)) same,
       types,
     )
 
@@ -57,8 +56,8 @@ overflow_sub-result c =
     let t = c.args.task.now in
     omega (
       arith,
-      shared_is t c.args.bare.now c.with_blocks-coded.result c.macro_bits-all.result c.kind_bits.result c.dct_bits.result c.requires.task c.requires.code.increment c.requires.code.other
-          c.with_blocks-coded.ensures c.macro_bits-all.ensures.value c.kind_bits.ensures.value c.dct_bits.ensures,
+      shared_is t c.args.bare.now c.with_blocks-coded.result c.macro_bits-all.result c.args.kinds.now.kept c.dct_bits.result c.requires.task c.requires.code.increment c.requires.code.other
+          c.with_blocks-coded.ensures c.macro_bits-all.ensures.value c.requires.kinds.kept c.dct_bits.ensures,
     )
 
 pub returns-clause-value : goal.returns-clause-value
@@ -66,6 +65,6 @@ returns-clause-value c =
     let t = c.args.task.now in
     omega (
       arith,
-      shared_is t c.args.bare.now c.with_blocks-coded.result c.macro_bits-all.result c.kind_bits.result c.dct_bits.result c.requires.task c.requires.code.increment c.requires.code.other
-          c.with_blocks-coded.ensures c.macro_bits-all.ensures.value c.kind_bits.ensures.value c.dct_bits.ensures,
+      shared_is t c.args.bare.now c.with_blocks-coded.result c.macro_bits-all.result c.args.kinds.now.kept c.dct_bits.result c.requires.task c.requires.code.increment c.requires.code.other
+          c.with_blocks-coded.ensures c.macro_bits-all.ensures.value c.requires.kinds.kept c.dct_bits.ensures,
     )

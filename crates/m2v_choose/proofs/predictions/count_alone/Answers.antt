@@ -19,8 +19,8 @@ returns-clause-alone c =
       macro = λ e. fits;
       bits = λ r. omega (
         arith,
-        c.bare_bits.ensures,
         c.requires.value,
+        c.requires.kinds.bare,
         text_alone t.context.now t.state.now (record { syntax = m; levels = no_levels }) c.requires.pattern,
         bare_length t.context.now t.state.now m bare,
       );
