@@ -83,9 +83,6 @@ text_length c st x =
     )
 
 module _ (c : PictureContext) (st : SliceState) (m : MacroSyntax) (bare : IsBare m) where
-  kind_is : m.kind ≡ bare_kind m.kind.forward m.kind.backward
-  kind_is = λ i. record { quant = bare.quant i; forward = m.kind.forward; backward = m.kind.backward; pattern = bare.pattern i; intra = bare.intra i }
-
   no_dct : dct_text c m.kind m.dct_field ≡ []
   unfolding dct_text has_dct
   no_dct = rw (bare.intra, bare.pattern) (none (is_field c) c.extension.frame_pred_frame_dct)
