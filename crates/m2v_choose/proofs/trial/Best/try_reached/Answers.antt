@@ -1,7 +1,7 @@
 use Rattle.std.proofs.lemmas.List.Elements.{All-map}
 use Rattle.m2v_quant.specs.Kinds.{IsLevel}
 use Rattle.m2v_quant.specs.declared.kind.Levels.{Levels}
-use Rattle.std.proofs.Common.{true, false, ℕ, ◌+◌, ◌*◌, All, List, ℤ, length, [], ◌∷◌, Bool, ◌≡◌, ◌<◌, refl, ap, sym, ◌∙◌, subst, arith}
+use Rattle.std.proofs.Common.{ℕ, ◌+◌, ◌*◌, All, List, ℤ, length, [], ◌∷◌, Bool, ◌≡◌, ◌<◌, refl, ap, sym, ◌∙◌, subst, arith}
 use Rattle.m2v_recon.specs.Steps.{levels_of}
 use Rattle.m2v_choose.specs.Decisions.{written}
 use Rattle.m2v_macro.specs.declared.values.MacroSyntax.{MacroSyntax}
@@ -10,8 +10,8 @@ use Rattle.m2v_choose.specs.Laws.{IsWritable}
 use Rattle.m2v_choose.specs.Trials.{decided, Tried, block_squared, uncoded_squared, with_blocks, sends_code, quantised_by, Predicts, transforms_of}
 use Rattle.std.specs.Prelude.{slice_index_or, unsigned_abs}
 use Rattle.m2v_idct.specs.Block.{nth}
-use Rattle.m2v_macroblock.specs.Macroblocks.{kind_for, block_levels}
-use Rattle.m2v_choose.proofs.Empties.{levels_same, none_reached, none_there}
+use Rattle.m2v_macroblock.specs.Macroblocks.{block_levels}
+use Rattle.m2v_choose.proofs.Empties.{levels_same, none_there}
 use Rattle.m2v_choose.proofs.Tried.{own_picture}
 use Rattle.m2v_vlc.specs.Tables.{pattern_code}
 use Rattle.m2v_macro.specs.Texts.{macro_text}
