@@ -2,6 +2,7 @@
 ghost use Rattle.std.specs.Prelude.{◌≡◌, ◌<◌};
 ghost use Rattle.m2v_wave.specs.Pieces.{ArePieces};
 
+use crate::spare::Spare;
 use m2v_board::Post;
 use m2v_core::JobBook;
 use std::marker::Model;
@@ -18,7 +19,8 @@ impl<B: JobBook> Model for Done<B> {
 
     ghost view = { λ d. d.of.value };
 
-    ghost invariant = { λ d. ArePieces (B.jobs d.of.value) (B.value d.of.value) d.posts };
+    ghost invariant = { λ d. ArePieces (B.jobs d.of.value) (B.value d.of.value) (B.shared d.of.value)
+        d.posts };
 }
 
 impl<B: JobBook> Drop for Done<B> {
@@ -34,5 +36,13 @@ impl<B: JobBook> Done<B> {
         ensures { result.now ≡ B.value self.now j }
     {
         &self.posts[j as usize].piece
+    }
+
+    /// Its posts, for the jobs of another book.
+    pub fn into_spare(self) -> Spare<B>
+        ensures { ArePieces (B.jobs self) (B.value self) (B.shared self) result.posts }
+    {
+        let Self { of: _, posts } = self;
+        Spare { posts }
     }
 }

@@ -1,6 +1,6 @@
-use Rattle.std.proofs.Common.{◌≡◌, ℕ, ◌<◌, length, get_or}
+use Rattle.std.proofs.Common.{◌≡◌, ℕ, ◌<◌, ◌≤◌, length, get_or}
 use Rattle.m2v_board.specs.Posts.{IsBlank}
-use Rattle.m2v_wave.proofs.bench.blank_posts.Given as goal
+use Rattle.m2v_wave.proofs.bench.all_posts.Given as goal
 
 abbrev pub invariant-loop-j : goal.invariant-loop-j
 invariant-loop-j g l = record {

@@ -1,7 +1,7 @@
 use Rattle.std.proofs.Common.{arith, ap, ◌∙◌, ◌∷◌, [], length, length-append}
 use Rattle.m2v_board.specs.Posts.{IsBlank}
 use Rattle.m2v_wave.proofs.Learns.{places_more}
-use Rattle.m2v_wave.proofs.bench.blank_posts.Goals as goal
+use Rattle.m2v_wave.proofs.bench.all_posts.Goals as goal
 
 pub loop-j-preserved : goal.loop-j-preserved
 loop-j-preserved g c =
