@@ -1,4 +1,5 @@
 pub mod Pieces
+pub mod Serving
 pub mod Puts
 pub mod PictureTexts
 pub mod Books

@@ -1,5 +1,6 @@
 pub mod Answers
 pub mod Groups
+pub mod Kept
 pub mod Places
 pub mod Rebuilt
 pub mod Steps

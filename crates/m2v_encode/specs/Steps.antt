@@ -63,10 +63,11 @@ book_by c g = record {
       (picture_activities c.settings g.frames g.pictures);
 }
 
--- a coder has room for a frame's bytes and for a picture's headers
+-- a coder has room for a frame's bytes and for a picture's headers, and the posts that it kept are for groups of its settings
 pub record HasRoom (c : Coder) : Type 0 where
   pub raw : vec_len c.raw ≡ frame_bytes (dims_of c.settings)
   pub headers : 384 ≤ c.headers.room + length c.headers.written
+  pub kept : IfSome c.kept (λ s. s ≡ c.settings)
 
 -- no number of it is near its end: there are at most 126 pictures for each frame, and 2^21 bytes for each picture
 pub record IsFew (t : Summary) : Type 0 where

@@ -5,6 +5,7 @@ ghost use Rattle.m2v_slice.specs.Books.{rows, job_at, slice_at, size_of, work_of
 ghost use Rattle.m2v_slice.specs.Conditions.{IsBook};
 ghost use Rattle.m2v_encode.specs.Groups.{all_coded, whole_ledger};
 
+use crate::kept::KeptPosts;
 use m2v_order::PictureJob;
 use m2v_rate::Ledger;
 use m2v_set::Passed;
@@ -177,5 +178,20 @@ impl DoneGroup {
             ledger.known(p, self.size(p), self.work(p));
         }
         ledger
+    }
+
+    /// Its posts, for the group after it.
+    pub(crate) fn into_kept(self) -> KeptPosts
+        ensures value { result ≡ self.settings }
+    {
+        let Self {
+            settings,
+            pictures: _,
+            frames: _,
+            rows: _,
+            times: _,
+            done,
+        } = self;
+        KeptPosts::of(&settings, done)
     }
 }

@@ -15,6 +15,7 @@ ghost use Rattle.m2v_encode.specs.Steps.{HasRoom, IsFew, GoesOn, GroupCoded, Gro
 use crate::answer::{EncodeError, Summary};
 use crate::crew::Crew;
 use crate::done::DoneGroup;
+use crate::kept::{KeptPosts, bench_for};
 use m2v_bits::BitWriter;
 use m2v_board::Gate;
 use m2v_order::{GroupJobs, PictureJob, intervals};
@@ -23,7 +24,7 @@ use m2v_port::Sink;
 use m2v_rate::Ledger;
 use m2v_set::{Passed, Scan};
 use m2v_slice::{EncodeBook, GroupActivities, source_activities};
-use m2v_wave::{Bench, run_jobs};
+use m2v_wave::run_jobs;
 use std::alloc::Global;
 use std::sync::Wait;
 use std::thread::Threads;
@@ -32,7 +33,7 @@ use std::thread::Threads;
 const HEADERS: usize = 48;
 
 /// What coding group after group needs: the ledger of the group before, the reconstruction of the last anchor, room for a
-/// frame's bytes and for a picture's headers, and the numbers so far.
+/// frame's bytes and for a picture's headers, the numbers so far, and the posts of the group before.
 #[derive(Drop)]
 pub(crate) struct Coder {
     pub(crate) settings: Passed,
@@ -41,6 +42,7 @@ pub(crate) struct Coder {
     pub(crate) raw: Vec<u8>,
     pub(crate) headers: BitWriter,
     pub(crate) total: Summary,
+    pub(crate) kept: Option<KeptPosts>,
 }
 
 /// The same pictures once more.
@@ -104,6 +106,7 @@ impl Coder {
                 bytes: 0,
                 stuffing: 0,
             },
+            kept: None,
         })
     }
 
@@ -149,11 +152,13 @@ impl Coder {
         requires sizes { All (λ (f : Samples). f.dims ≡ dims_of self.old.settings)
             group.frames.items }
         requires early { All (λ (j : PictureJob). j.display < 1000000) group.pictures.items }
+        requires kept { IfSome self.old.kept (λ s. s ≡ self.old.settings) }
         ensures value { IfOk result (λ d. d ≡ book_by self.old (handed group)) }
         ensures settings { self.new.settings ≡ self.old.settings }
         ensures total { self.new.total ≡ self.old.total }
         ensures raw { self.new.raw ≡ self.old.raw }
         ensures headers { self.new.headers ≡ self.old.headers }
+        ensures kept { IfSome self.new.kept (λ s. s ≡ self.new.settings) }
     {
         let alloc = crew.alloc;
         let pictures = copy_of(alloc, &group.pictures)?;
@@ -175,7 +180,7 @@ impl Coder {
             self.ledger,
         )?;
         let workers = self.settings.settings().workers;
-        let bench = Bench::for_book(alloc, &book, workers)?;
+        let bench = bench_for(alloc, &book, workers, self.kept.take())?;
         let done = run_jobs(crew.rt, &book, bench, crew.gate);
         Ok(DoneGroup {
             settings: self.settings,
@@ -237,6 +242,7 @@ impl Coder {
             output,
         )?;
         self.before = done.put_shown(crew.alloc, shown, &mut self.raw, recon)?;
+        self.kept = Some(done.into_kept());
         Ok(())
     }
 }

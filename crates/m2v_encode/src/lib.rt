@@ -11,6 +11,7 @@ mod crew;
 mod done;
 mod frames;
 mod group;
+mod kept;
 mod pictures;
 mod reading;
 mod unshown;

@@ -1,4 +1,4 @@
-use Rattle.std.proofs.Common.{◌∙◌, ◌+◌, ◌*◌, refl, sym, ap, subst, length}
+use Rattle.std.proofs.Common.{◌∙◌, ◌+◌, ◌*◌, Some, refl, sym, ap, subst, length}
 use Rattle.std.proofs.lemmas.Result.{err_from_is_err_and}
 use Rattle.m2v_port.specs.Ends.{change}
 use Rattle.m2v_rate.specs.Plans.{Entries, account_at}
@@ -44,6 +44,7 @@ returns-clause-coded g c =
       raw = with_items c.do_jobs.new.self.raw c.put_shown.new.buffer;
       headers = c.put_pictures.new.headers;
       total = c.put_pictures.new.total;
+      kept = Some c.into_kept.result;
     } in
     subst (λ (b : Book). GroupCoded c.args.self.now d b c.args.ends (change g.K.Sink.held g.K.Sink.faults c.args.output.now c.put_pictures.new.output) (change g.N.Sink.held g.N.Sink.faults c.args.recon.now c.put_shown.new.recon)) c.in-Ok.ensures.value
     (coded_by c.args.self.now d c.in-Ok.done c.args.ends c.do_jobs.new.self.total c.ledger-self.result _ _ c.do_jobs.ensures.total c.ledger-self.ensures.value
