@@ -4,7 +4,7 @@ use Rattle.std.specs.Prelude.{nat_eq, if◌then◌else◌}
 use Rattle.std.proofs.lemmas.Grind.{flat_map-append}
 use Rattle.m2v_port.specs.Ends.{Change, absent}
 use Rattle.m2v_port.specs.Port.{Rose, Grows, GrowsByPrefix}
-use Rattle.m2v_port.proofs.Runs.{rose_since, rose_still, grows_absent, prefix_absent, failed_here, moves_nothing, grows_by_all, grows_by_none, prefix_on, prefix_of_more, grows_on}
+use Rattle.m2v_port.proofs.Runs.{rose_since, grows_absent, prefix_absent, failed_here, moves_nothing, grows_by_all, grows_by_none, prefix_on, prefix_of_more, grows_on}
 use Rattle.m2v_model.specs.declared.state.Sequence.{Sequence}
 use Rattle.m2v_model.specs.Pieces.{Limit, too_long, too_large}
 use Rattle.m2v_model.specs.Units.{joined}
@@ -222,31 +222,13 @@ fell_as A B f errors.TooLong fell = absurd fell
 fell_as A B f errors.PictureTooLarge fell = absurd fell
 fell_as A B f errors.Memory fell = tt
 
-cut_fell : (bytes : List ℕ) (held : Change) (e : MendError) → Cuts bytes held e → FellOut held.Failed e
-cut_fell bytes held errors.Read cut = absurd cut
-cut_fell bytes held errors.Write cut = cut.0
-cut_fell bytes held errors.TooLong cut = absurd cut
-cut_fell bytes held errors.PictureTooLarge cut = absurd cut
-cut_fell bytes held errors.Memory cut = tt
-
-pub cut_output : (Other : Type 0) (bytes : List ℕ) (held : Change) (e : MendError) → Cuts bytes held e → FellOut (held.Failed ⊎ Other) e
-cut_output Other bytes held e cut = fell_as held.Failed (held.Failed ⊎ Other) inl e (cut_fell bytes held e cut)
-
-pub cut_list : (Other : Type 0) (bytes : List ℕ) (held : Change) (e : MendError) → Cuts bytes held e → FellOut (Other ⊎ held.Failed) e
-cut_list Other bytes held e cut = fell_as held.Failed (Other ⊎ held.Failed) inr e (cut_fell bytes held e cut)
-
 -- counts that rose in the last part rose in the whole
-pub either_since : {before between now before' between' now' : ℕ} → before ≤ between → before' ≤ between' → (Rose between now ⊎ Rose between' now') → Rose before now ⊎ Rose before' now'
+either_since : {before between now before' between' now' : ℕ} → before ≤ between → before' ≤ between' → (Rose between now ⊎ Rose between' now') → Rose before now ⊎ Rose before' now'
 either_since le le' (inl rose) = inl (rose_since le rose)
 either_since le le' (inr rose) = inr (rose_since le' rose)
 
 pub fell_since : (before between now before' between' now' : ℕ) (e : MendError) → before ≤ between → before' ≤ between' → FellOut (Rose between now ⊎ Rose between' now') e → FellOut (Rose before now ⊎ Rose before' now') e
 fell_since before between now before' between' now' e le le' fell = fell_as (Rose between now ⊎ Rose between' now') (Rose before now ⊎ Rose before' now') (either_since le le') e fell
-
--- counts that rose in the first part did so
-pub either_still : {before between now before' between' now' : ℕ} → (Rose before between ⊎ Rose before' between') → between ≤ now → between' ≤ now' → Rose before now ⊎ Rose before' now'
-either_still (inl rose) le le' = inl (rose_still rose le)
-either_still (inr rose) le le' = inr (rose_still rose le')
 
 -- ---- the answer of the whole
 

@@ -139,12 +139,11 @@ part_text text g written listed start held held' grew grown p =
 
 -- ---- a piece more
 
-none_there : (w : List ℕ) → length w ≡ 0 → w ≡ []
-none_there [] e = refl
-none_there (b ∷ w) e = absurd (omega (arith, e))
+some_length : (n : ℕ) → (n ≡ 0 → ⊥) → 1 ≤ n
+some_length n h = omega (arith, h)
 
 whole_none : (g : Gathering) (p : Piece) → p.length ≡ 0 → p.length ≡ length (whole_of p) → with_whole g p ≡ g
-whole_none g p zero len = ap (λ (w : List ℕ). with_pieces g (piece_of w)) (none_there (whole_of p) (omega (arith, zero, len))) ∙ with_none g
+whole_none g p zero len = ap (λ (w : List ℕ). with_pieces g (piece_of w)) (nil_from_length (whole_of p) (omega (arith, zero, len))) ∙ with_none g
 
 some_by : (g : Gathering) (w : List ℕ) → 1 ≤ length w → with_pieces g (piece_of w) ≡ with_piece g w
 some_by g [] le = absurd (omega (arith, le))
@@ -174,9 +173,6 @@ taken_some held held' p old mid new zero told f = record {
       subst (λ (h : Gathering). IsFolded (written ++ f.bytes) (listed ++ f.gaps) h new) (sym (some_by g (whole_of p) (omega (arith, some, next.0))))
       (f.folded written listed (with_piece g (whole_of p)) (told written listed g is (next.1 some)));
 }
-  where
-    some_length : (n : ℕ) → (n ≡ 0 → ⊥) → 1 ≤ n
-    some_length n h = omega (arith, h)
 
 -- it wasn't taken
 pub taken_not : (held : Held) (p : Piece) (x : Folding) (written : List ℕ) (listed : List mending.Gap) (g : Gathering) → IsFolded written listed g x → IsPartOf (with_whole g p) written listed held held
@@ -190,9 +186,6 @@ taken_cut held held' p old mid zero told cut written listed g is next =
     let some : 1 ≤ p.length = some_length p.length zero in
     subst (λ (h : Gathering). IsPartOf h written listed held held') (sym (some_by g (whole_of p) (omega (arith, some, next.0))))
     (cut written listed (with_piece g (whole_of p)) (told written listed g is (next.1 some)))
-  where
-    some_length : (n : ℕ) → (n ≡ 0 → ⊥) → 1 ≤ n
-    some_length n h = omega (arith, h)
 
 -- ---- a stretch has ended
 
