@@ -81,14 +81,14 @@ module _ {K N : Type 0} (held : K → Option (List ℕ)) (output_faults : K → 
       inl (due, subst (λ (x : Group Samples). EndCut c (book_by c x) (change held output_faults o0 o2) (change kept recon_faults r0 r1)) is (put_cut c d (book_by c g) o0 o1 o2 r0 r1 bytes same coded h))
 
   -- all was written
-  pub end_all : (c d : Coder) (q : Queue Samples) (g : Group Samples) (o0 o1 o2 : K) (r0 r1 : N) (bytes : List ℕ) (t : Summary) → g ≡ group_of q → bytes ≡ packed (start_code 0xB7)
+  pub end_all : (n : ℕ) (c d : Coder) (q : Queue Samples) (g : Group Samples) (o0 o1 o2 : K) (r0 r1 : N) (bytes : List ℕ) (t : Summary) → g ≡ group_of q → bytes ≡ packed (start_code 0xB7)
       → GroupCoded c d (book_by c g) true (change held output_faults o0 o1) (change kept recon_faults r0 r1) → Grows (held o1) bytes (held o2)
-      → t ≡ record d.total { bytes = d.total.bytes + 4 } → EndCoded c (book_by c (group_of q)) (change held output_faults o0 o2) (change kept recon_faults r0 r1) t
-  end_all c d q g o0 o1 o2 r0 r1 bytes t is same coded last total =
-      subst (λ (x : Group Samples). EndCoded c (book_by c x) (change held output_faults o0 o2) (change kept recon_faults r0 r1) t) is (record {
+      → t ≡ record d.total { frames = n; bytes = d.total.bytes + 4 } → EndCoded c n (book_by c (group_of q)) (change held output_faults o0 o2) (change kept recon_faults r0 r1) t
+  end_all n c d q g o0 o1 o2 r0 r1 bytes t is same coded last total =
+      subst (λ (x : Group Samples). EndCoded c n (book_by c x) (change held output_faults o0 o2) (change kept recon_faults r0 r1) t) is (record {
         grown = subst (λ (z : List ℕ). Grows (held o0) z (held o2)) (end_is c d (book_by c g) o0 o1 r0 r1 bytes same coded) (grows_on coded.grown last);
         shown = coded.shown;
-        frames = ap (λ (x : Summary). x.frames) total ∙ coded.frames;
+        frames = ap (λ (x : Summary). x.frames) total;
         pictures = ap (λ (x : Summary). x.pictures) total ∙ coded.pictures;
         bytes = omega (arith, ap (λ (x : Summary). x.bytes) total, coded.bytes);
         stuffing = ap (λ (x : Summary). 8 * x.stuffing) total ∙ coded.stuffing;
@@ -100,9 +100,9 @@ module _ {K N : Type 0} (held : K → Option (List ℕ)) (output_faults : K → 
   end_put_by c d q r g o0 o1 o2 r0 r1 bytes e queue due is same le coded h =
       subst (λ (x : Queue Samples). EndStops c x (change held output_faults o0 o2) (change kept recon_faults r0 r1) e) queue (end_put c d q g o0 o1 o2 r0 r1 bytes e due is same le coded h)
 
-  pub end_all_by : (c d : Coder) (q r : Queue Samples) (g : Group Samples) (o0 o1 o2 : K) (r0 r1 : N) (bytes : List ℕ) (t : Summary) → q ≡ r → g ≡ group_of q → bytes ≡ packed (start_code 0xB7)
+  pub end_all_by : (n : ℕ) (c d : Coder) (q r : Queue Samples) (g : Group Samples) (o0 o1 o2 : K) (r0 r1 : N) (bytes : List ℕ) (t : Summary) → q ≡ r → g ≡ group_of q → bytes ≡ packed (start_code 0xB7)
       → GroupCoded c d (book_by c g) true (change held output_faults o0 o1) (change kept recon_faults r0 r1) → Grows (held o1) bytes (held o2)
-      → t ≡ record d.total { bytes = d.total.bytes + 4 } → EndCoded c (book_by c (group_of r)) (change held output_faults o0 o2) (change kept recon_faults r0 r1) t
-  end_all_by c d q r g o0 o1 o2 r0 r1 bytes t queue is same coded last total =
-      subst (λ (x : Queue Samples). EndCoded c (book_by c (group_of x)) (change held output_faults o0 o2) (change kept recon_faults r0 r1) t) queue
-      (end_all c d q g o0 o1 o2 r0 r1 bytes t is same coded last total)
+      → t ≡ record d.total { frames = n; bytes = d.total.bytes + 4 } → EndCoded c n (book_by c (group_of r)) (change held output_faults o0 o2) (change kept recon_faults r0 r1) t
+  end_all_by n c d q r g o0 o1 o2 r0 r1 bytes t queue is same coded last total =
+      subst (λ (x : Queue Samples). EndCoded c n (book_by c (group_of x)) (change held output_faults o0 o2) (change kept recon_faults r0 r1) t) queue
+      (end_all n c d q g o0 o1 o2 r0 r1 bytes t is same coded last total)

@@ -2,7 +2,7 @@
 use Rattle.std.proofs.Common.{◌≡◌, ℕ, suc, ◌+◌, ◌-◌, ◌<◌, ◌≤◌, Bool, true, false, inl, inr, List, [], ◌∷◌, ◌++◌, length, map, take, drop, refl, sym, ap, subst, ◌∙◌, arith, append_assoc}
 use Rattle.std.specs.Prelude.{nat_lt, ◌&&◌, ◌||◌}
 use Rattle.std.proofs.lemmas.Bool.{cases_lt, lt-ltb, and_from}
-use Rattle.std.proofs.lemmas.List.{length-append, append-nil, map-append, length-drop, drop-append-le, take-append-drop, take-append-le}
+use Rattle.std.proofs.lemmas.List.{length-append, length-map, append-nil, map-append, length-drop, drop-append-le, take-append-drop, take-append-le}
 use Rattle.std.proofs.Math.Seq.{drop-append_seam}
 use Rattle.m2v_plane.specs.Raw.{pad}
 use Rattle.m2v_plane.specs.Samples.{Samples}
@@ -67,35 +67,43 @@ handed_none s = record {
   count = omega arith;
 }
 
-wait_more : (s : Settings) (frames : List (List ℕ)) (f : List ℕ) (more : List Samples) (ended : Bool)
-    → followed (waiting s (frames ++ f ∷ []) false) more ended ≡ followed (waiting s frames false) (pad (dims_of s) f ∷ more) ended
-wait_more s frames f more ended =
+wait_more : (s : Settings) (frames others : List (List ℕ)) (more : List Samples) (ended : Bool)
+    → followed (waiting s (frames ++ others) false) more ended ≡ followed (waiting s frames false) (map (pad (dims_of s)) others ++ more) ended
+wait_more s frames others more ended =
     let d = dims_of s in
-    let count : length (frames ++ f ∷ []) + length more ≡ length frames + suc (length more) = omega (arith, length-append frames (f ∷ [])) in
-    let list : map (pad d) (frames ++ f ∷ []) ++ more ≡ map (pad d) frames ++ pad d f ∷ more =
-    ap (λ (xs : List Samples). xs ++ more) (map-append (pad d) frames (f ∷ [])) ∙ append_assoc (map (pad d) frames) (pad d f ∷ []) more in
-    ap (λ (n : ℕ). record { settings = s; pushed = n; frames = map (pad d) (frames ++ f ∷ []) ++ more; ended = ended }) count
-    ∙ ap (λ (xs : List Samples). record { settings = s; pushed = length frames + suc (length more); frames = xs; ended = ended }) list
+    let count : length (frames ++ others) + length more ≡ length frames + length (map (pad d) others ++ more) =
+    omega (arith, length-append frames others, length-append (map (pad d) others) more, length-map others (pad d)) in
+    let list : map (pad d) (frames ++ others) ++ more ≡ map (pad d) frames ++ (map (pad d) others ++ more) =
+    ap (λ (xs : List Samples). xs ++ more) (map-append (pad d) frames others) ∙ append_assoc (map (pad d) frames) (map (pad d) others) more in
+    ap (λ (n : ℕ). record { settings = s; pushed = n; frames = map (pad d) (frames ++ others) ++ more; ended = ended }) count
+    ∙ ap (λ (xs : List Samples). record { settings = s; pushed = length frames + length (map (pad d) others ++ more); frames = xs; ended = ended }) list
 
-push_more : (q : Queue Samples) (f : Samples) (more : List Samples) (ended : Bool) → followed (after_push q f) more ended ≡ followed q (f ∷ more) ended
-push_more q f more ended =
-    let count : q.pushed + 1 + length more ≡ q.pushed + suc (length more) = omega arith in
-    ap (λ (n : ℕ). record q { pushed = n; frames = (q.frames ++ f ∷ []) ++ more; ended = ended }) count
-    ∙ ap (λ (xs : List Samples). record q { pushed = q.pushed + suc (length more); frames = xs; ended = ended }) (append_assoc q.frames (f ∷ []) more)
+pub followed_on : (q : Queue Samples) (first more : List Samples) (ended : Bool) → followed (followed q first false) more ended ≡ followed q (first ++ more) ended
+followed_on q first more ended =
+    let count : q.pushed + length first + length more ≡ q.pushed + length (first ++ more) = omega (arith, length-append first more) in
+    ap (λ (n : ℕ). record q { pushed = n; frames = (q.frames ++ first) ++ more; ended = ended }) count
+    ∙ ap (λ (xs : List Samples). record q { pushed = q.pushed + length (first ++ more); frames = xs; ended = ended }) (append_assoc q.frames first more)
 
--- a frame more waits
-pub handed_push : (s : Settings) (frames : List (List ℕ)) (groups : List (Group Samples)) (q r : Queue Samples) (f : List ℕ)
-    → HandedOut s frames groups q → r ≡ after_push q (pad (dims_of s) f) → HandedOut s (frames ++ f ∷ []) groups r
-handed_push s frames groups q r f h is = subst (HandedOut s (frames ++ f ∷ []) groups) (sym is) (record {
-  settings = h.settings;
-  going = h.going;
-  pushed = omega (arith, h.pushed, length-append frames (f ∷ []));
-  front = λ more ended n.
-      ap (groups_from (length groups + n)) (wait_more s frames f more ended)
-      ∙ h.front (pad (dims_of s) f ∷ more) ended n
-      ∙ ap (λ (x : Queue Samples). groups ++ groups_from n x) (sym (push_more q (pad (dims_of s) f) more ended));
-  count = omega (arith, h.count, length-append frames (f ∷ []), length-append q.frames (pad (dims_of s) f ∷ []));
-})
+-- frames more wait
+pub handed_more : (s : Settings) (frames others : List (List ℕ)) (groups : List (Group Samples)) (q r : Queue Samples)
+    → HandedOut s frames groups q → r ≡ followed q (map (pad (dims_of s)) others) false → HandedOut s (frames ++ others) groups r
+handed_more s frames others groups q r h is =
+    let waits = map (pad (dims_of s)) others in
+    let long = length-append frames others in
+    let same : length waits ≡ length others = length-map others (pad (dims_of s)) in
+    subst (HandedOut s (frames ++ others) groups) (sym is) (record {
+      settings = h.settings;
+      going = refl;
+      pushed = omega (arith, h.pushed, long, same);
+      front = λ more ended n.
+          ap (groups_from (length groups + n)) (wait_more s frames others more ended)
+          ∙ h.front (waits ++ more) ended n
+          ∙ ap (λ (x : Queue Samples). groups ++ groups_from n x) (sym (followed_on q waits more ended));
+      count = omega (arith, h.count, long, same, length-append q.frames waits);
+    })
+
+pub push_is : (q : Queue Samples) (f : Samples) → q.ended ≡ false → after_push q f ≡ followed q (f ∷ []) false
+push_is q f going = ap (λ (t : Bool). record (after_push q f) { ended = t }) going
 
 -- a group more is handed out
 pub handed_group : (s : Settings) (frames : List (List ℕ)) (groups : List (Group Samples)) (q r : Queue Samples) → Passes s → IsSoundQueue q → is_due q ≡ true
@@ -124,7 +132,7 @@ handed_group s frames groups q r passes sound is h same =
 
 -- ---- what stands
 
-no_more : (q : Queue Samples) (ended : Bool) → followed q [] ended ≡ record q { ended = ended }
+pub no_more : (q : Queue Samples) (ended : Bool) → followed q [] ended ≡ record q { ended = ended }
 no_more q ended =
     let count : q.pushed + 0 ≡ q.pushed = omega arith in
     ap (λ (n : ℕ). record q { pushed = n; frames = q.frames ++ []; ended = ended }) count
@@ -140,7 +148,7 @@ all_groups s frames groups q ended h =
     ∙ h.front [] ended (length frames - length groups)
     ∙ ap (λ (x : Queue Samples). groups ++ groups_from (length frames - length groups) x) (no_more q ended)
 
-going_is : (q : Queue Samples) → q.ended ≡ false → record q { ended = false } ≡ q
+pub going_is : (q : Queue Samples) → q.ended ≡ false → record q { ended = false } ≡ q
 going_is q e = ap (λ (t : Bool). record q { ended = t }) (sym e)
 
 -- where no group is due, what is coded is what is begun

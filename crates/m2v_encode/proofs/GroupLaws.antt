@@ -55,22 +55,6 @@ module _ {K N : Type 0} (held : K → Option (List ℕ)) (output_faults : K → 
   group_recon TooManyFrames b ends at o0 o1 r0 r1 grown h = absurd h
   group_recon Memory b ends at o0 o1 r0 r1 grown h = (grows_by_all grown, h)
 
-  pub group_output_by : (e : EncodeError) (b d : Book) (ends : Bool) (at from : ℕ) (o0 o1 : K) (r : N) → d ≡ b → from ≡ at
-      → PutStops (packed (group_text d ends from)) (change held output_faults o0 o1) e → GroupStops b ends at (change held output_faults o0 o1) (change kept recon_faults r r) e
-  group_output_by e b d ends at from o0 o1 r is same h =
-      group_output e b ends at o0 o1 r
-      (subst (λ (x : Book). PutStops (packed (group_text x ends at)) (change held output_faults o0 o1) e) is
-      (subst (λ (n : ℕ). PutStops (packed (group_text d ends n)) (change held output_faults o0 o1) e) same h))
-
-  pub group_recon_by : (e : EncodeError) (b d : Book) (ends : Bool) (at from : ℕ) (o0 o1 : K) (r0 r1 : N) → d ≡ b → from ≡ at
-      → Grows (held o0) (packed (group_text d ends from)) (held o1) → PutStops (raw (group_shown d)) (change kept recon_faults r0 r1) e
-      → GroupStops b ends at (change held output_faults o0 o1) (change kept recon_faults r0 r1) e
-  group_recon_by e b d ends at from o0 o1 r0 r1 is same grown h =
-      group_recon e b ends at o0 o1 r0 r1
-      (subst (λ (x : Book). Grows (held o0) (packed (group_text x ends at)) (held o1)) is
-      (subst (λ (n : ℕ). Grows (held o0) (packed (group_text d ends n)) (held o1)) same grown))
-      (subst (λ (x : Book). PutStops (raw (group_shown x)) (change kept recon_faults r0 r1) e) is h)
-
 -- all of a group was written
 pub coded_by : (c d : Coder) (b : Book) (ends : Bool) (t : Summary) (l : Entries) (held recon : Change) → t ≡ c.total → l ≡ whole_ledger b
     → Grows held.old (packed (group_text b ends (8 * t.bytes))) held.new → Grows recon.old (raw (group_shown b)) recon.new
@@ -88,6 +72,27 @@ coded_by c d b ends t l held recon is same grown shown settings ledger before fr
   bytes = bytes ∙ ap (λ (x : Summary). 8 * x.bytes + length (group_text b ends (8 * x.bytes))) is;
   stuffing = stuffing ∙ ap (λ (x : Summary). 8 * x.stuffing + zeros_sum l ends (length b.pictures)) is ∙ ap (λ (x : Entries). 8 * c.total.stuffing + zeros_sum x ends (length b.pictures)) same;
 }
+
+-- it was written by a coder that had the book made
+pub coded_since : (c m d : Coder) (b x : Book) (ends : Bool) (held recon : Change) → m.settings ≡ c.settings → m.total ≡ c.total → x ≡ b
+    → GroupCoded m d x ends held recon → GroupCoded c d b ends held recon
+coded_since c m d b x ends held recon settings total is coded =
+    subst (λ (y : Book). GroupCoded c d y ends held recon) is (record {
+      grown = subst (λ (t : Summary). Grows held.old (packed (group_text x ends (8 * t.bytes))) held.new) total coded.grown;
+      shown = coded.shown;
+      settings = coded.settings ∙ settings;
+      ledger = coded.ledger;
+      before = coded.before;
+      frames = coded.frames ∙ ap (λ (t : Summary). t.frames) total;
+      pictures = coded.pictures ∙ ap (λ (t : Summary). t.pictures + length x.pictures) total;
+      bytes = coded.bytes ∙ ap (λ (t : Summary). 8 * t.bytes + length (group_text x ends (8 * t.bytes))) total;
+      stuffing = coded.stuffing ∙ ap (λ (t : Summary). 8 * t.stuffing + zeros_sum (whole_ledger x) ends (length x.pictures)) total;
+    })
+
+pub stops_since : (b x : Book) (ends : Bool) (at from : ℕ) (held recon : Change) (e : EncodeError) → x ≡ b → from ≡ at
+    → GroupStops x ends from held recon e → GroupStops b ends at held recon e
+stops_since b x ends at from held recon e is same h =
+    subst (λ (y : Book). GroupStops y ends at held recon e) is (subst (λ (n : ℕ). GroupStops x ends n held recon e) same h)
 
 -- ---- what stands
 

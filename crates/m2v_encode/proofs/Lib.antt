@@ -10,6 +10,7 @@ pub mod Covering
 pub mod Rebuilding
 pub mod Anchors
 pub mod GroupLaws
+pub mod Readings
 pub mod Progress
 pub mod Due
 pub mod Ends

@@ -1,15 +1,17 @@
 -- The main loop: where it begins, and the queue from frame to frame.
-use Rattle.std.proofs.Common.{◌≡◌, ℕ, ◌+◌, ◌*◌, ◌<◌, ◌≤◌, inl, inr, Bool, true, false, length, Option, None, refl, sym, subst, ap, ◌∙◌, arith}
-use Rattle.std.specs.Prelude.{IfSome, is_some, nat_lt, ◌||◌}
-use Rattle.std.proofs.lemmas.Bool.{cases_Bool, cases_lt, lt-ltb, and_from}
+use Rattle.std.proofs.Common.{◌≡◌, ℕ, ◌+◌, ◌-◌, ◌*◌, ◌^◌, ◌<◌, ◌≤◌, inl, inr, Bool, true, false, List, length, Option, Some, None, refl, sym, subst, ap, ◌∙◌, arith}
+use Rattle.std.specs.Prelude.{IfSome, is_some, nat_lt, ◌||◌, vec_len}
+use Rattle.std.proofs.lemmas.Bool.{cases_lt, lt-ltb, and_from}
 use Rattle.std.proofs.Math.Bool.{or-true}
-use Rattle.m2v_port.specs.Ends.{Change}
-use Rattle.m2v_plane.specs.Raw.{pad}
+use Rattle.m2v_port.specs.Ends.{Change, change}
+use Rattle.m2v_plane.specs.Raw.{frame_bytes, pad}
 use Rattle.m2v_plane.specs.Samples.{Samples}
 use Rattle.m2v_set.specs.declared.settings.Settings.{Settings}
 use Rattle.m2v_set.specs.Numbers.{dims_of}
 use Rattle.m2v_set.specs.Rules.{Passes}
-use Rattle.m2v_order.specs.Groups.{Queue, opening, first_of, intra_from, next_intra, is_due, group_of, anchor_before, after_push, after_group, IsSoundQueue}
+use Rattle.m2v_order.specs.declared.jobs.GroupJobs.{GroupJobs}
+use Rattle.m2v_order.specs.Groups.{Queue, Group, opening, first_of, intra_from, next_intra, is_due, group_of, anchor_before, after_push, after_group, IsSoundQueue}
+use Rattle.m2v_order.specs.Whole.{handed}
 use Rattle.m2v_order.proofs.Queues.{grouped, push_first, sound_push, sound_next, due_is, turn_is, next_is, true_false}
 use Rattle.m2v_order.proofs.Wholes.{group_is}
 use Rattle.m2v_rate.specs.Plans.{Entries, account_at, fresh}
@@ -17,10 +19,16 @@ use Rattle.m2v_rate.specs.Steady.{IsSteady}
 use Rattle.m2v_rate.proofs.Places.{fresh_place}
 use Rattle.m2v_rate.proofs.Streams.{fresh_ledger}
 use Rattle.m2v_encode.specs.declared.answer.Summary.{Summary}
+use Rattle.m2v_encode.specs.declared.answer.EncodeError.{EncodeError}
 use Rattle.m2v_encode.specs.declared.group.Coder.{Coder}
+use Rattle.m2v_encode.specs.declared.intake.Intake.{Intake}
+use Rattle.m2v_encode.specs.Answers.{most_frames, Stops}
 use Rattle.m2v_encode.specs.Groups.{IsPlace}
-use Rattle.m2v_encode.specs.Steps.{FrameRead, DueCoded, GoesOn}
+use Rattle.m2v_encode.specs.Steps.{FrameRead, GoesOn, CanRead, GroupOut, HandsOut, Comes, BesideStops, GroupCoded, GroupStops, SoFar, book_by}
+use Rattle.m2v_encode.proofs.Due.{before_is, after_some}
 use Rattle.m2v_encode.proofs.Ends.{none_false}
+use Rattle.m2v_encode.proofs.Readings.{reads_count, reads_first}
+use Rattle.m2v_encode.proofs.Progress.{so_far_reads, so_far_group, reading_stopped, group_stopped}
 
 -- ---- the start
 
@@ -84,49 +92,148 @@ pub sound_read : (s : Settings) (q p : Queue Samples) (left : Change) → Passes
 sound_read s q p left passes e sound going read =
     subst IsSoundQueue (sym read.pushed) (sound_push q (pad (dims_of s) read.frame) (grouped q.settings (subst Passes (sym e) passes)) sound going)
 
--- what stands behind it
-pub record Turned (c d : Coder) (p r : Queue Samples) : Type 0 where
-  pub sound : IsSoundQueue r
-  pub rest : is_due r ≡ false
-  pub settings : d.settings ≡ c.settings
-  pub frames : d.total.frames ≡ c.total.frames
-  pub pictures : d.total.pictures + 126 * length r.frames ≤ c.total.pictures + 126 * length p.frames
+-- a frame more waits, and no group is due
+pub can_frame : (t u : Intake) (left : Change) → Passes t.settings → CanRead t → t.count < most_frames → FrameRead t.settings t.queue u.queue left
+    → u.count ≡ t.count + 1 → u.settings ≡ t.settings → vec_len u.raw ≡ frame_bytes (dims_of u.settings) → is_due u.queue ≡ false → CanRead u
+can_frame t u left passes can few read count same raw rest = record {
+  raw = raw;
+  settings = ap (λ (q : Queue Samples). q.settings) read.pushed ∙ can.settings ∙ sym same;
+  going = ap (λ (q : Queue Samples). q.ended) read.pushed ∙ can.going;
+  count = omega (arith, ap (λ (q : Queue Samples). q.pushed) read.pushed, can.count, count);
+  most = omega (arith, count, few);
+  sound = sound_read t.settings t.queue u.queue left passes can.settings can.sound can.going read;
+  rest = rest;
+}
 
-turned_group : (s : Settings) (q p : Queue Samples) (c d : Coder) (left held recon : Change) → Passes s → q.settings ≡ s → IsSoundQueue q → q.ended ≡ false → is_due q ≡ false
-    → FrameRead s q p left → is_due p ≡ true → DueCoded c d p (after_group p) held recon → Turned c d p (after_group p)
-unfolding group_of
-turned_group s q p c d left held recon passes e sound going rest read is due =
-    let f = pad (dims_of s) read.frame in
-    let pass : Passes p.settings = subst Passes (sym (ap (λ (x : Queue Samples). x.settings) read.pushed ∙ e)) passes in
-    let ok = grouped p.settings pass in
-    let sp = sound_read s q p left passes e sound going read in
-    let turn = turn_is p ok sp (due_is p is) in
-    let group = (due.due is).1 in
-    let few = (group_is p pass sp is).pictures in
+-- a group was due with it, and was handed out
+pub can_group : (t u v : Intake) (g : GroupJobs) (left : Change) → Passes t.settings → CanRead t → t.count < most_frames → FrameRead t.settings t.queue u.queue left
+    → u.count ≡ t.count + 1 → u.settings ≡ t.settings → vec_len u.raw ≡ frame_bytes (dims_of u.settings) → GroupOut u.queue.settings u.queue v.queue g
+    → v.count ≡ u.count → v.settings ≡ u.settings → vec_len v.raw ≡ vec_len u.raw → CanRead v
+can_group t u v g left passes can few read count same raw out kept settings buffer =
+    let q = t.queue in
+    let p = u.queue in
+    let pass : Passes q.settings = subst Passes (sym can.settings) passes in
+    let is : p.settings ≡ q.settings = ap (λ (x : Queue Samples). x.settings) read.pushed in
+    let ok = grouped p.settings (subst Passes (sym is) pass) in
+    let sound = sound_read t.settings q p left passes can.settings can.sound can.going read in
+    let turn = turn_is p ok sound (due_is p out.due) in
     record {
-      sound = sound_next p ok (due_is p is) turn;
-      rest = none_false (is_due (after_group p)) (λ again.
-          due_once q f (subst Passes (sym e) passes) sound going rest (subst (λ (x : Queue Samples). is_due x ≡ true) read.pushed is)
+      raw = buffer ∙ raw ∙ ap (λ (s : Settings). frame_bytes (dims_of s)) (sym settings);
+      settings = ap (λ (x : Queue Samples). x.settings) out.after ∙ is ∙ can.settings ∙ sym same ∙ sym settings;
+      going = ap (λ (x : Queue Samples). x.ended) out.after ∙ ap (λ (x : Queue Samples). x.ended) read.pushed ∙ can.going;
+      count = omega (arith, ap (λ (x : Queue Samples). x.pushed) out.after, ap (λ (x : Queue Samples). x.pushed) read.pushed, can.count, count, kept);
+      most = omega (arith, count, few, kept);
+      sound = subst IsSoundQueue (sym out.after) (sound_next p ok (due_is p out.due) turn);
+      rest = ap (λ (x : Queue Samples). is_due x) out.after ∙ none_false (is_due (after_group p)) (λ again.
+          due_once q (pad (dims_of t.settings) read.frame) pass can.sound can.going can.rest (subst (λ (x : Queue Samples). is_due x ≡ true) read.pushed out.due)
           (subst (λ (x : Queue Samples). is_due (after_group x) ≡ true) read.pushed again));
-      settings = group.settings;
-      frames = group.frames;
-      pictures = omega (arith, group.pictures, few, turn.left, turn.past, turn.low, sp.room);
     }
 
-pub turned : (s : Settings) (q p r : Queue Samples) (c d : Coder) (left held recon : Change) → Passes s → q.settings ≡ s → IsSoundQueue q → q.ended ≡ false → is_due q ≡ false
-    → FrameRead s q p left → DueCoded c d p r held recon → Turned c d p r
-turned s q p r c d left held recon passes e sound going rest read due = elim (cases_Bool (is_due p)) [
-  | inl is ↦
-      let same = (due.due is).0 in
-      subst (Turned c d p) (sym same)
-      (turned_group s q p c d left held recon passes e sound going rest read is (subst (λ (x : Queue Samples). DueCoded c d p x held recon) same due))
-  | inr none ↦
-      let same = due.rest none in
+
+-- ---- from group to group
+
+-- how many groups can come yet, at most
+abbrev pub turns_left : Option GroupJobs → ℕ → ℕ
+turns_left (Some g) count = 1000000 - count
+turns_left None count = 0
+
+pub turns_fall : (next : Option GroupJobs) (a b : ℕ) → a ≤ most_frames → (is_some next ≡ true → a < b) → turns_left next b < 1000000 - a
+turns_fall (Some g) a b most more = omega (arith, more refl, most)
+turns_fall None a b most more = omega (arith, most)
+
+-- A coder stands where a group was handed out, or none will be before the end; the frames up to there were read.
+pub record Waits (s : Settings) (c : Coder) (last : Queue Samples) (next : Option GroupJobs) (left held recon : Change) : Type 0 where
+  pub queue : Queue Samples
+  pub far : SoFar s c queue left held recon
+  pub sound : IsSoundQueue queue
+  pub most : queue.pushed ≤ most_frames
+  pub out : HandsOut s queue last left.new next
+  pub goes : GoesOn c (is_some (anchor_before (first_of queue)))
+  pub pictures : c.total.pictures + 126 * length queue.frames ≤ 126 * queue.pushed
+  pub bytes : c.total.bytes ≤ 2 ^ 21 * c.total.pictures
+  pub stuffing : c.total.stuffing ≤ c.total.bytes
+
+pub waits_before : (s : Settings) (q last : Queue Samples) (g : GroupJobs) (c : Coder) → GroupOut s q last g → GoesOn c (is_some (anchor_before (first_of q))) → GoesOn c (is_some g.before)
+waits_before s q last g c out goes =
+    subst (λ (o : Option ℕ). GoesOn c (is_some o)) (sym (before_is q g.before (ap (λ (x : Group Samples). x.before) out.is))) goes
+
+coded_few : (s : Settings) (q : Queue Samples) (c d : Coder) (held recon : Change) → Passes s → q.settings ≡ s → IsSoundQueue q → is_due q ≡ true
+    → GroupCoded c d (book_by c (group_of q)) false held recon → c.total.pictures + 126 * length q.frames ≤ 126 * q.pushed
+    → d.total.pictures + 126 * length (after_group q).frames ≤ 126 * q.pushed
+unfolding group_of
+coded_few s q c d held recon passes e sound is coded before =
+    let pass : Passes q.settings = subst Passes (sym e) passes in
+    let turn = turn_is q (grouped q.settings pass) sound (due_is q is) in
+    let few = (group_is q pass sound is).pictures in
+    omega (arith, coded.pictures, few, turn.left, turn.past, turn.low, sound.room, before)
+
+module _ {S K N : Type 0} (left : S → Option (List ℕ)) (input_faults : S → ℕ) (held : K → Option (List ℕ)) (output_faults : K → ℕ)
+    (kept : N → Option (List ℕ)) (recon_faults : N → ℕ) where
+  abbrev input : S → S → Change
+  input = change left input_faults
+
+  abbrev output : K → K → Change
+  output = change held output_faults
+
+  abbrev recon : N → N → Change
+  recon = change kept recon_faults
+
+  -- frames were read up to the next group
+  pub waits_reads : (s : Settings) (c : Coder) (q last : Queue Samples) (next : Option GroupJobs) (i0 i1 i2 : S) (o0 o1 : K) (r0 r1 : N)
+      → SoFar s c q (input i0 i1) (output o0 o1) (recon r0 r1) → IsSoundQueue q → GoesOn c (is_some (anchor_before (first_of q)))
+      → c.total.pictures + 126 * length q.frames ≤ 126 * q.pushed → c.total.bytes ≤ 2 ^ 21 * c.total.pictures → c.total.stuffing ≤ c.total.bytes
+      → Comes left input_faults s q last i1 i2 next → Waits s c last next (input i0 i2) (output o0 o1) (recon r0 r1)
+  waits_reads s c q last next i0 i1 i2 o0 o1 r0 r1 far sound goes pictures bytes stuffing comes =
+      let n = reads_count left input_faults s q comes.queue i1 i2 comes.reads in
       record {
-        sound = subst IsSoundQueue (sym same.0) (sound_read s q p left passes e sound going read);
-        rest = ap (λ (x : Queue Samples). is_due x) same.0 ∙ none;
-        settings = ap (λ (x : Coder). x.settings) same.1.0;
-        frames = ap (λ (x : Coder). x.total.frames) same.1.0;
-        pictures = omega (arith, ap (λ (x : Coder). x.total.pictures) same.1.0, ap (λ (x : Queue Samples). length x.frames) same.0);
+        queue = comes.queue;
+        far = so_far_reads left input_faults held output_faults kept recon_faults s c q comes.queue i0 i1 i2 o0 o1 r0 r1 far comes.reads;
+        sound = comes.sound;
+        most = comes.most;
+        out = comes.out;
+        goes = subst (λ (n : ℕ). GoesOn c (is_some (anchor_before n))) (sym (reads_first left input_faults s q comes.queue i1 i2 sound comes.reads)) goes;
+        pictures = omega (arith, pictures, n.0, n.1);
+        bytes = bytes;
+        stuffing = stuffing;
       }
-]
+
+  behind_group : (s : Settings) (c d : Coder) (last : Queue Samples) (g : GroupJobs) (i0 i1 : S) (o0 o1 o2 : K) (r0 r1 r2 : N) → Passes s
+      → (w : Waits s c last (Some g) (input i0 i1) (output o0 o1) (recon r0 r1)) → GroupCoded c d (book_by c (handed g)) false (output o1 o2) (recon r1 r2)
+      → GroupCoded c d (book_by c (group_of w.queue)) false (output o1 o2) (recon r1 r2) × SoFar s d last (input i0 i1) (output o0 o2) (recon r0 r2)
+  behind_group s c d last g i0 i1 o0 o1 o2 r0 r1 r2 passes w coded =
+      let same = subst (λ (x : Group Samples). GroupCoded c d (book_by c x) false (output o1 o2) (recon r1 r2)) w.out.is coded in
+      (same, so_far_group left input_faults held output_faults kept recon_faults s c d w.queue last i0 i1 o0 o1 o2 r0 r1 r2 passes w.sound w.out.due w.far w.out.after same)
+
+  -- the group was coded, and frames were read up to the one behind it
+  pub waits_group : (s : Settings) (c d : Coder) (last after : Queue Samples) (g : GroupJobs) (next : Option GroupJobs) (i0 i1 i2 : S) (o0 o1 o2 : K) (r0 r1 r2 : N) → Passes s
+      → Waits s c last (Some g) (input i0 i1) (output o0 o1) (recon r0 r1) → IsSoundQueue last → GroupCoded c d (book_by c (handed g)) false (output o1 o2) (recon r1 r2)
+      → GoesOn d true → d.total.bytes ≤ 2 ^ 21 * d.total.pictures → d.total.stuffing ≤ d.total.bytes → Comes left input_faults s last after i1 i2 next
+      → Waits s d after next (input i0 i2) (output o0 o2) (recon r0 r2)
+  waits_group s c d last after g next i0 i1 i2 o0 o1 o2 r0 r1 r2 passes w sound coded goes bytes stuffing comes =
+      let e : w.queue.settings ≡ s = w.far.handed.settings in
+      let behind = behind_group s c d last g i0 i1 o0 o1 o2 r0 r1 r2 passes w coded in
+      let few = coded_few s w.queue c d (output o1 o2) (recon r1 r2) passes e w.sound w.out.due behind.0 w.pictures in
+      let first = after_some w.queue last (subst Passes (sym e) passes) w.sound w.out.due w.out.after in
+      waits_reads s d last after next i0 i1 i2 o0 o2 r0 r2 behind.1 sound (subst (GoesOn d) (sym first) goes)
+      (omega (arith, few, ap (λ (q : Queue Samples). length q.frames) w.out.after, ap (λ (q : Queue Samples). q.pushed) w.out.after)) bytes stuffing comes
+
+  -- the group wasn't coded, or the frames behind it weren't read
+  pub waits_stopped : (s : Settings) (c d : Coder) (t : Intake) (g : GroupJobs) (i0 i1 i2 : S) (o0 o1 o2 : K) (r0 r1 r2 : N) (e : EncodeError) → Passes s → 0 < frame_bytes (dims_of s)
+      → t.settings ≡ s → input_faults i0 ≤ input_faults i1 → output_faults o0 ≤ output_faults o1 → recon_faults r0 ≤ recon_faults r1
+      → Waits s c t.queue (Some g) (input i0 i1) (output o0 o1) (recon r0 r1) → BesideStops left input_faults (book_by c (handed g)) c d t i1 i2 (output o1 o2) (recon r1 r2) e
+      → Stops s (input i0 i2) (output o0 o2) (recon r0 r2) e
+  waits_stopped s c d t g i0 i1 i2 o0 o1 o2 r0 r1 r2 e passes size same fi fo fr w (inl h) =
+      group_stopped left input_faults held output_faults kept recon_faults s c w.queue t.queue i0 i1 i2 o0 o1 o2 r0 r1 r2 e passes w.sound w.out.due w.out.after fo fr w.far (rw same at h.1)
+      (subst (λ (x : Group Samples). GroupStops (book_by c x) false (8 * c.total.bytes) (output o1 o2) (recon r1 r2) e) w.out.is h.0)
+  waits_stopped s c d t g i0 i1 i2 o0 o1 o2 r0 r1 r2 e passes size same fi fo fr w (inr h) =
+      let behind = behind_group s c d t.queue g i0 i1 o0 o1 o2 r0 r1 r2 passes w h.0 in
+      reading_stopped left input_faults held output_faults kept recon_faults s d t.queue i0 i1 i2 o0 o2 r0 r2 e passes size fi behind.1 (rw same at h.1)
+
+-- where no group will be due before the end
+pub waits_last : (s : Settings) (c : Coder) (last : Queue Samples) (left held recon : Change) → (w : Waits s c last None left held recon)
+    → SoFar s c last left held recon × GoesOn c (is_some (anchor_before (first_of last))) × (c.total.pictures ≤ 126 * most_frames)
+waits_last s c last left held recon w = (
+  subst (λ (q : Queue Samples). SoFar s c q left held recon) (sym w.out.same) w.far,
+  subst (λ (q : Queue Samples). GoesOn c (is_some (anchor_before (first_of q)))) (sym w.out.same) w.goes,
+  omega (arith, w.pictures, w.most),
+)

@@ -1,10 +1,9 @@
 -- Frame after frame: what stands after one more, and where coding stops.
-use Rattle.std.proofs.Common.{◌≡◌, ℕ, ◌+◌, ◌*◌, ◌/◌, ◌<◌, ◌≤◌, ◌⊎◌, inl, inr, Bool, true, false, List, [], ◌∷◌, ◌++◌, length, Option, None, Result, Ok, Err, refl, sym, subst, ap, ◌∙◌, arith, append_assoc}
+use Rattle.std.proofs.Common.{◌≡◌, ℕ, ◌+◌, ◌*◌, ◌/◌, ◌<◌, ◌≤◌, ◌⊎◌, inl, inr, Bool, true, false, List, [], ◌∷◌, ◌++◌, length, map, Option, None, Result, Ok, Err, refl, sym, subst, ap, ◌∙◌, arith, append_assoc}
 use Rattle.std.specs.Prelude.{OnOk, IfOk, IfErr, nat_lt, ◌&&◌, ◌||◌}
 use Rattle.std.proofs.lemmas.Bool.{cases_Bool, cases_lt, lt-ltb, and_from}
 use Rattle.std.proofs.lemmas.List.{length-append, append-nil}
-use Rattle.std.proofs.lemmas.List.Concat.{flat_map-append}
-use Rattle.std.proofs.lemmas.List.Elements.{All-append, All-cons, All-nil}
+use Rattle.std.proofs.lemmas.List.Elements.{All-nil}
 use Rattle.m2v_bits.specs.Bits.{packed, number, start_code, IsEdge}
 use Rattle.m2v_bits.proofs.Units.{packed-append, start_length}
 use Rattle.m2v_port.specs.Ends.{Change, change}
@@ -15,7 +14,7 @@ use Rattle.m2v_plane.specs.Samples.{Samples}
 use Rattle.m2v_set.specs.declared.settings.Settings.{Settings}
 use Rattle.m2v_set.specs.Numbers.{dims_of}
 use Rattle.m2v_set.specs.Rules.{Passes}
-use Rattle.m2v_order.specs.Groups.{Queue, Group, opening, next_intra, is_due, group_of, after_push, after_end, after_group, IsSoundQueue}
+use Rattle.m2v_order.specs.Groups.{Queue, Group, opening, next_intra, is_due, group_of, after_end, after_group, followed, IsSoundQueue}
 use Rattle.m2v_order.proofs.Queues.{due_is, sound_end}
 use Rattle.m2v_rate.specs.Plans.{fresh}
 use Rattle.m2v_slice.specs.Books.{Book}
@@ -28,8 +27,9 @@ use Rattle.m2v_law_shown.proofs.Headline.{headline}
 use Rattle.m2v_law_shown.proofs.Lengths.{bytes_by}
 use Rattle.m2v_encode.specs.Answers.{AreWhole, most_frames, AllCoded, Unended, CutOff, Stops}
 use Rattle.m2v_encode.specs.Groups.{whole_ledger, group_text, group_shown, anchor_behind}
-use Rattle.m2v_encode.specs.Steps.{FrameRead, FrameStops, ReadStops, book_by, GroupCoded, GroupStops, DueCoded, DueStops, EndCoded, EndCut, EndStops, HandedOut, Stands, SoFar}
-use Rattle.m2v_encode.proofs.Fronts.{handed_none, handed_push, handed_group, begun_is, begun_behind, all_is, Front, front_is, front_start, left_some}
+use Rattle.m2v_encode.specs.Steps.{FrameStops, ReadStops, ReadsOn, ReadingStops, ReadAhead, book_by, GroupCoded, GroupStops, EndCoded, EndCut, EndStops, HandedOut, Stands, SoFar}
+use Rattle.m2v_encode.proofs.Readings.{raw_both, raw_one, whole_all, whole_one, moved_all}
+use Rattle.m2v_encode.proofs.Fronts.{handed_none, handed_more, handed_group, begun_is, begun_behind, all_is, Front, front_is, front_start, left_some}
 
 -- ---- bytes and bits
 
@@ -55,20 +55,6 @@ pub prefix_by : (h0 h1 : Option (List ℕ)) (part all rest : List ℕ) → all �
 prefix_by h0 h1 part all rest is grown = subst (λ (b : List ℕ). GrowsByPrefix h0 b h1) (sym is) (prefix_of_more grown rest)
 
 -- ---- frames
-
-raw_more : (frames : List (List ℕ)) (f : List ℕ) → raw (frames ++ f ∷ []) ≡ raw frames ++ f
-raw_more frames f = flat_map-append (λ (x : List ℕ). x) frames (f ∷ []) ∙ ap (λ (t : List ℕ). raw frames ++ t) (append-nil f)
-
-raw_both : (xs ys : List (List ℕ)) → raw (xs ++ ys) ≡ raw xs ++ raw ys
-raw_both xs ys = flat_map-append (λ (x : List ℕ). x) xs ys
-
-whole_more : (s : Settings) (frames : List (List ℕ)) (f : List ℕ) → AreWhole s frames → length f ≡ frame_bytes (dims_of s) → AreWhole s (frames ++ f ∷ [])
-whole_more s frames f whole is =
-    let P = λ (x : List ℕ). length x ≡ frame_bytes (dims_of s) in
-    All-append P frames (f ∷ []) whole (All-cons P f [] is (All-nil P))
-
-moved_more : (l0 l1 l2 : Option (List ℕ)) (frames : List (List ℕ)) (f : List ℕ) → Moves l0 (raw frames) l1 → Moves l1 f l2 → Moves l0 (raw (frames ++ f ∷ [])) l2
-moved_more l0 l1 l2 frames f first second = subst (λ (b : List ℕ). Moves l0 b l2) (sym (raw_more frames f)) (moves_on first second)
 
 raw_none : (frames : List (List ℕ)) → length frames ≡ 0 → raw frames ≡ []
 raw_none [] none = refl
@@ -134,7 +120,6 @@ module _ {S K N : Type 0} (left : S → Option (List ℕ)) (input_faults : S →
   so_far_none s c q i0 o0 r0 e ledger before total queue = record {
     frames = [];
     groups = [];
-    count = sym (ap (λ (t : Summary). t.frames) total);
     whole = All-nil (λ (x : List ℕ). length x ≡ frame_bytes (dims_of s));
     moved = moves_nothing (left i0);
     handed = subst (HandedOut s [] []) (sym (queue ∙ ap (λ (x : Settings). opening x) e)) (handed_none s);
@@ -151,39 +136,27 @@ module _ {S K N : Type 0} (left : S → Option (List ℕ)) (input_faults : S →
     unwritten = λ none. (refl, refl);
   }
 
-  -- a frame more waits
-  pub so_far_read : (s : Settings) (c d : Coder) (q r : Queue Samples) (i0 i1 i2 : S) (o0 o1 : K) (r0 r1 : N)
-      → SoFar s c q (input i0 i1) (output o0 o1) (recon r0 r1) → FrameRead s q r (input i1 i2)
-      → d.settings ≡ c.settings → d.ledger ≡ c.ledger → d.before ≡ c.before → d.total ≡ record c.total { frames = c.total.frames + 1 }
-      → SoFar s d r (input i0 i2) (output o0 o1) (recon r0 r1)
-  so_far_read s c d q r i0 i1 i2 o0 o1 r0 r1 far next settings ledger before total =
-      let f = next.frame in
-      let st = far.stands in
-      record {
-        frames = far.frames ++ f ∷ [];
-        groups = far.groups;
-        count = omega (arith, length-append far.frames (f ∷ []), far.count, ap (λ (t : Summary). t.frames) total);
-        whole = whole_more s far.frames f far.whole next.whole;
-        moved = moved_more (left i0) (left i1) (left i2) far.frames f far.moved next.moved;
-        handed = handed_push s far.frames far.groups q r f far.handed next.pushed;
-        settings = settings ∙ far.settings;
-        stands = record {
-          ledger = ledger ∙ st.ledger;
-          before = before ∙ st.before;
-          pictures = ap (λ (t : Summary). t.pictures) total ∙ st.pictures;
-          bytes = ap (λ (t : Summary). 8 * t.bytes) total ∙ st.bytes;
-          stuffing = ap (λ (t : Summary). 8 * t.stuffing) total ∙ st.stuffing;
-        };
-        grown = far.grown;
-        shown = far.shown;
-        unwritten = λ none. absurd (omega (arith, none, length-append far.frames (f ∷ [])));
-      }
+  -- frames more wait
+  pub so_far_reads : (s : Settings) (c : Coder) (q r : Queue Samples) (i0 i1 i2 : S) (o0 o1 : K) (r0 r1 : N)
+      → SoFar s c q (input i0 i1) (output o0 o1) (recon r0 r1) → ReadsOn left input_faults s q r i1 i2 → SoFar s c r (input i0 i2) (output o0 o1) (recon r0 r1)
+  so_far_reads s c q r i0 i1 i2 o0 o1 r0 r1 far reads = record {
+    frames = far.frames ++ reads.frames;
+    groups = far.groups;
+    whole = whole_all s far.frames reads.frames far.whole reads.whole;
+    moved = moved_all (left i0) (left i1) (left i2) far.frames reads.frames far.moved reads.moved;
+    handed = handed_more s far.frames reads.frames far.groups q r far.handed reads.pushed;
+    settings = far.settings;
+    stands = far.stands;
+    grown = far.grown;
+    shown = far.shown;
+    unwritten = λ none. far.unwritten (omega (arith, none, length-append far.frames reads.frames));
+  }
 
   -- the group that was due is coded
-  so_far_group : (s : Settings) (c d : Coder) (q r : Queue Samples) (i0 i1 : S) (o0 o1 o2 : K) (r0 r1 r2 : N) → Passes s → IsSoundQueue q → is_due q ≡ true → 0 < c.total.frames
+  pub so_far_group : (s : Settings) (c d : Coder) (q r : Queue Samples) (i0 i1 : S) (o0 o1 o2 : K) (r0 r1 r2 : N) → Passes s → IsSoundQueue q → is_due q ≡ true
       → SoFar s c q (input i0 i1) (output o0 o1) (recon r0 r1) → r ≡ after_group q → GroupCoded c d (book_by c (group_of q)) false (output o1 o2) (recon r1 r2)
       → SoFar s d r (input i0 i1) (output o0 o2) (recon r0 r2)
-  so_far_group s c d q r i0 i1 o0 o1 o2 r0 r1 r2 passes sound is some far after group =
+  so_far_group s c d q r i0 i1 o0 o1 o2 r0 r1 r2 passes sound is far after group =
       let st = far.stands in
       let x = groups_begun s (at_start s) far.groups in
       let b = book_by c (group_of q) in
@@ -201,7 +174,6 @@ module _ {S K N : Type 0} (left : S → Option (List ℕ)) (input_faults : S →
       record {
         frames = far.frames;
         groups = far.groups ++ group_of q ∷ [];
-        count = far.count ∙ sym group.frames;
         whole = far.whole;
         moved = far.moved;
         handed = handed_group s far.frames far.groups q r passes sound is far.handed after;
@@ -211,42 +183,19 @@ module _ {S K N : Type 0} (left : S → Option (List ℕ)) (input_faults : S →
             (subst (λ (t : List ℕ). Grows (held o0) t (held o2)) (sym bytes) (grows_on far.grown group.grown));
         shown = subst (λ (y : Progress). Grows (kept r0) (raw y.shown) (kept r2)) (sym e)
             (subst (λ (t : List ℕ). Grows (kept r0) t (kept r2)) (sym (raw_both x.shown (group_shown b))) (grows_on far.shown group.shown));
-        unwritten = λ none. absurd (omega (arith, none, far.count, some));
+        unwritten = λ none. absurd (omega (arith, none, (due_is q is).some, sound.room, far.handed.pushed));
       }
-
-  pub so_far_due : (s : Settings) (c d : Coder) (q r : Queue Samples) (i0 i1 : S) (o0 o1 o2 : K) (r0 r1 r2 : N) → Passes s → IsSoundQueue q → 0 < c.total.frames
-      → SoFar s c q (input i0 i1) (output o0 o1) (recon r0 r1) → DueCoded c d q r (output o1 o2) (recon r1 r2)
-      → SoFar s d r (input i0 i1) (output o0 o2) (recon r0 r2)
-  so_far_due s c d q r i0 i1 o0 o1 o2 r0 r1 r2 passes sound some far due = elim (cases_Bool (is_due q)) [
-    | inl is ↦ let g = due.due is in so_far_group s c d q r i0 i1 o0 o1 o2 r0 r1 r2 passes sound is some far g.0 g.1
-    | inr none ↦
-        let same = due.rest none in
-        subst (λ (y : Queue Samples). SoFar s d y (input i0 i1) (output o0 o2) (recon r0 r2)) (sym same.0)
-        (subst (λ (y : Coder). SoFar s y q (input i0 i1) (output o0 o2) (recon r0 r2)) (sym same.1.0) (record {
-          frames = far.frames;
-          groups = far.groups;
-          count = far.count;
-          whole = far.whole;
-          moved = far.moved;
-          handed = far.handed;
-          settings = far.settings;
-          stands = far.stands;
-          grown = subst (λ (h : Option (List ℕ)). Grows (held o0) (packed (groups_begun s (at_start s) far.groups).text) h) (sym same.1.1.0) far.grown;
-          shown = subst (λ (h : Option (List ℕ)). Grows (kept r0) (raw (groups_begun s (at_start s) far.groups).shown) h) (sym same.1.1.1) far.shown;
-          unwritten = λ zero_frames. absurd (omega (arith, zero_frames, far.count, some));
-        }))
-  ]
 
   -- ---- where it stops
 
   -- what stands is what the groups bring that were handed out
-  begun_here : (s : Settings) (c : Coder) (q : Queue Samples) (part : List ℕ) (i0 i1 i2 : S) (o0 o1 : K) (r0 r1 : N) → c.total.frames ≤ most_frames → is_due q ≡ false
+  begun_here : (s : Settings) (c : Coder) (q : Queue Samples) (part : List ℕ) (i0 i1 i2 : S) (o0 o1 : K) (r0 r1 : N) → q.pushed ≤ most_frames → is_due q ≡ false
       → (far : SoFar s c q (input i0 i1) (output o0 o1) (recon r0 r1)) → Moves (left i1) part (left i2)
       → Unended s (input i0 i2) (output o0 o1) (recon r0 r1) far.frames part
   begun_here s c q part i0 i1 i2 o0 o1 r0 r1 few rest far moved =
       let e = begun_is s far.frames far.groups q far.handed rest in
       record {
-        most = omega (arith, few, far.count);
+        most = omega (arith, few, far.handed.pushed);
         whole = far.whole;
         moved = moves_on far.moved moved;
         grown = subst (λ (y : Progress). Grows (held o0) (packed y.text) (held o1)) (sym e) far.grown;
@@ -297,15 +246,15 @@ module _ {S K N : Type 0} (left : S → Option (List ℕ)) (input_faults : S →
       front_empty s (f ∷ frames) groups q h none = absurd (omega (arith, none))
 
   -- the input failed or memory ran out before the next frame was there
-  lost_here : (s : Settings) (c : Coder) (q : Queue Samples) (part : List ℕ) (i0 i1 i2 : S) (o0 o1 : K) (r0 r1 : N) → Passes s → IsSoundQueue q → c.total.frames ≤ most_frames
+  lost_here : (s : Settings) (c : Coder) (q : Queue Samples) (part : List ℕ) (i0 i1 i2 : S) (o0 o1 : K) (r0 r1 : N) → Passes s → IsSoundQueue q → q.pushed ≤ most_frames
       → SoFar s c q (input i0 i1) (output o0 o1) (recon r0 r1) → Moves (left i1) part (left i2) → length part < frame_bytes (dims_of s)
       → CutOff s (input i0 i2) (output o0 o1) (recon r0 r1)
   lost_here s c q part i0 i1 i2 o0 o1 r0 r1 passes sound few far moved less =
-      cut_here s far.frames part (groups_begun s (at_start s) far.groups) i0 i2 o0 o1 r0 r1 (omega (arith, few, far.count)) far.whole less (moves_on far.moved moved)
+      cut_here s far.frames part (groups_begun s (at_start s) far.groups) i0 i2 o0 o1 r0 r1 (omega (arith, few, far.handed.pushed)) far.whole less (moves_on far.moved moved)
       (front_begun s far.frames far.groups q passes far.handed sound) (grows_by_all far.grown) (grows_by_all far.shown) far.unwritten
 
   -- the next frame does not wait
-  pub frame_stopped : (s : Settings) (c : Coder) (q : Queue Samples) (i0 i1 i2 : S) (o0 o1 : K) (r0 r1 : N) (e : EncodeError) → Passes s → IsSoundQueue q → c.total.frames < most_frames
+  pub frame_stopped : (s : Settings) (c : Coder) (q : Queue Samples) (i0 i1 i2 : S) (o0 o1 : K) (r0 r1 : N) (e : EncodeError) → Passes s → IsSoundQueue q → q.pushed < most_frames
       → 0 < frame_bytes (dims_of s) → is_due q ≡ false → input_faults i0 ≤ input_faults i1
       → SoFar s c q (input i0 i1) (output o0 o1) (recon r0 r1) → FrameStops s (input i1 i2) e → Stops s (input i0 i2) (output o0 o1) (recon r0 r1) e
   unfolding FrameStops Stops
@@ -324,7 +273,7 @@ module _ {S K N : Type 0} (left : S → Option (List ℕ)) (input_faults : S →
     part = h.part;
     begun = begun_here s c q h.part i0 i1 i2 o0 o1 r0 r1 (omega (arith, few)) rest far h.moved;
     bytes = h.bytes;
-    fewer = omega (arith, few, far.count);
+    fewer = omega (arith, few, far.handed.pushed);
     count = h.count;
     some = h.some;
     less = h.less;
@@ -336,63 +285,74 @@ module _ {S K N : Type 0} (left : S → Option (List ℕ)) (input_faults : S →
       lost_here s c q h.part i0 i1 i2 o0 o1 r0 r1 passes sound (omega (arith, few)) far h.moved h.fewer
   frame_stopped s c q i0 i1 i2 o0 o1 r0 r1 Memory passes sound few some rest since far (inr h) =
       let f = h.frame in
-      let more = handed_push s far.frames far.groups q (after_push q (pad (dims_of s) f)) f far.handed refl in
+      let more = handed_more s far.frames (f ∷ []) far.groups q (followed q (pad (dims_of s) f ∷ []) false) far.handed refl in
       let long = length-append far.frames (f ∷ []) in
-      cut_here s (far.frames ++ f ∷ []) [] (groups_begun s (at_start s) far.groups) i0 i2 o0 o1 r0 r1 (omega (arith, few, far.count, long)) (whole_more s far.frames f far.whole h.whole) some
-      (no_part (left i0) (left i2) (raw (far.frames ++ f ∷ [])) (moved_more (left i0) (left i1) (left i2) far.frames f far.moved h.moved))
-      (front_is s (far.frames ++ f ∷ []) far.groups (after_push q (pad (dims_of s) f)) passes more (omega (arith, length-append q.frames (pad (dims_of s) f ∷ []))))
+      cut_here s (far.frames ++ f ∷ []) [] (groups_begun s (at_start s) far.groups) i0 i2 o0 o1 r0 r1 (omega (arith, few, far.handed.pushed, long)) (whole_all s far.frames (f ∷ []) far.whole (whole_one s f h.whole)) some
+      (no_part (left i0) (left i2) (raw (far.frames ++ f ∷ [])) (moved_all (left i0) (left i1) (left i2) far.frames (f ∷ []) far.moved (subst (λ (b : List ℕ). Moves (left i1) b (left i2)) (sym (raw_one f)) h.moved)))
+      (front_is s (far.frames ++ f ∷ []) far.groups (followed q (pad (dims_of s) f ∷ []) false) passes more (omega (arith, length-append q.frames (pad (dims_of s) f ∷ []))))
       (grows_by_all far.grown) (grows_by_all far.shown) (λ none. absurd (omega (arith, none, long)))
 
-  -- a group was cut off
-  group_cut : (s : Settings) (c : Coder) (q : Queue Samples) (i0 i1 : S) (o0 o1 o2 : K) (r0 r1 r2 : N) → Passes s → IsSoundQueue q → is_due q ≡ true → 0 < c.total.frames → c.total.frames ≤ most_frames
-      → 0 < frame_bytes (dims_of s) → SoFar s c q (input i0 i1) (output o0 o1) (recon r0 r1)
+  -- frames were read on, and then one was there no more
+  pub reading_stopped : (s : Settings) (c : Coder) (q : Queue Samples) (i0 i1 i2 : S) (o0 o1 : K) (r0 r1 : N) (e : EncodeError) → Passes s → 0 < frame_bytes (dims_of s)
+      → input_faults i0 ≤ input_faults i1 → SoFar s c q (input i0 i1) (output o0 o1) (recon r0 r1) → ReadingStops left input_faults s q i1 i2 e
+      → Stops s (input i0 i2) (output o0 o1) (recon r0 r1) e
+  reading_stopped s c q i0 i1 i2 o0 o1 r0 r1 e passes size since far stopped =
+      frame_stopped s c stopped.queue i0 stopped.between i2 o0 o1 r0 r1 e passes stopped.sound stopped.fewer size stopped.rest (omega (arith, since, stopped.reads.rises))
+      (so_far_reads s c q stopped.queue i0 i1 stopped.between o0 o1 r0 r1 far stopped.reads) stopped.stops
+
+  -- a group was cut off, and frames beyond it were read meanwhile
+  group_cut : (s : Settings) (c : Coder) (q p : Queue Samples) (i0 i1 i2 : S) (o0 o1 o2 : K) (r0 r1 r2 : N) → Passes s → IsSoundQueue q → is_due q ≡ true → p ≡ after_group q
+      → SoFar s c q (input i0 i1) (output o0 o1) (recon r0 r1) → ReadAhead left input_faults s p i1 i2
       → GrowsByPrefix (held o1) (packed (group_text (book_by c (group_of q)) false (8 * c.total.bytes))) (held o2)
-      → GrowsByPrefix (kept r1) (raw (group_shown (book_by c (group_of q)))) (kept r2) → CutOff s (input i0 i1) (output o0 o2) (recon r0 r2)
-  group_cut s c q i0 i1 o0 o1 o2 r0 r1 r2 passes sound is some few size far grown shown =
+      → GrowsByPrefix (kept r1) (raw (group_shown (book_by c (group_of q)))) (kept r2) → CutOff s (input i0 i2) (output o0 o2) (recon r0 r2)
+  group_cut s c q p i0 i1 i2 o0 o1 o2 r0 r1 r2 passes sound is after far ahead grown shown =
       let st = far.stands in
       let x = groups_begun s (at_start s) far.groups in
       let b = book_by c (group_of q) in
       let at = 8 * c.total.bytes in
+      let more = ahead.frames in
+      let waits = map (pad (dims_of s)) more in
+      let long = length-append far.frames more in
       let e : groups_begun s (at_start s) (far.groups ++ group_of q ∷ []) ≡ progress_by x b false at =
       begun_behind s (at_start s) far.groups (group_of q) ∙ coded_is s x c (group_of q) false st far.settings in
       let bytes : packed (progress_by x b false at).text ≡ packed x.text ++ packed (group_text b false at) = packed-append x.text (group_text b false at) (edge_by x.text c.total.bytes st.bytes) in
       let pass : Passes q.settings = subst Passes (sym far.handed.settings) passes in
-      let front = front_is s far.frames (far.groups ++ group_of q ∷ []) (after_group q) passes (handed_group s far.frames far.groups q (after_group q) passes sound is far.handed refl) (left_some q pass sound far.handed.going is) in
-      cut_here s far.frames [] (progress_by x b false at) i0 i1 o0 o2 r0 r2 (omega (arith, few, far.count)) far.whole size (no_part (left i0) (left i1) (raw far.frames) far.moved)
-      (subst (λ (y : Progress). Front y (coded_all s far.frames)) e front)
+      let behind = handed_group s far.frames far.groups q (after_group q) passes sound is far.handed refl in
+      let beyond = handed_more s far.frames more (far.groups ++ group_of q ∷ []) (after_group q) (followed (after_group q) waits false) behind refl in
+      let front = front_is s (far.frames ++ more) (far.groups ++ group_of q ∷ []) (followed (after_group q) waits false) passes beyond
+          (omega (arith, left_some q pass sound far.handed.going is, length-append (after_group q).frames waits)) in
+      let moved : Moves (left i0) (raw (far.frames ++ more) ++ ahead.part) (left i2) =
+      subst (λ (t : List ℕ). Moves (left i0) t (left i2)) (sym (ap (λ (t : List ℕ). t ++ ahead.part) (raw_both far.frames more) ∙ append_assoc (raw far.frames) (raw more) ahead.part))
+      (moves_on far.moved ahead.moved) in
+      cut_here s (far.frames ++ more) ahead.part (progress_by x b false at) i0 i2 o0 o2 r0 r2
+      (omega (arith, ahead.most, ap (λ (y : Queue Samples). y.pushed) after, far.handed.pushed, long)) (whole_all s far.frames more far.whole ahead.whole) ahead.less moved
+      (subst (λ (y : Progress). Front y (coded_all s (far.frames ++ more))) e front)
       (subst (λ (t : List ℕ). GrowsByPrefix (held o0) t (held o2)) (sym bytes) (prefix_on far.grown grown))
       (subst (λ (t : List ℕ). GrowsByPrefix (kept r0) t (kept r2)) (sym (raw_both x.shown (group_shown b))) (prefix_on far.shown shown))
-      (λ none. absurd (omega (arith, none, far.count, some)))
+      (λ none. absurd (omega (arith, none, long, (due_is q is).some, sound.room, far.handed.pushed)))
 
-  pub due_stopped : (s : Settings) (c : Coder) (q : Queue Samples) (i0 i1 : S) (o0 o1 o2 : K) (r0 r1 r2 : N) (e : EncodeError) → Passes s → IsSoundQueue q → 0 < c.total.frames → c.total.frames ≤ most_frames
-      → 0 < frame_bytes (dims_of s) → output_faults o0 ≤ output_faults o1 → recon_faults r0 ≤ recon_faults r1
-      → SoFar s c q (input i0 i1) (output o0 o1) (recon r0 r1) → DueStops c q (output o1 o2) (recon r1 r2) e → Stops s (input i0 i1) (output o0 o2) (recon r0 r2) e
-  unfolding DueStops GroupStops Stops
-  due_stopped s c q i0 i1 o0 o1 o2 r0 r1 r2 Read passes sound some few size fo fr far (inl h) = absurd h.1
-  due_stopped s c q i0 i1 o0 o1 o2 r0 r1 r2 Write passes sound some few size fo fr far (inl h) =
-      (by_side h.1.0, group_cut s c q i0 i1 o0 o1 o2 r0 r1 r2 passes sound h.0 some few size far h.1.1.0 h.1.1.1)
+  pub group_stopped : (s : Settings) (c : Coder) (q p : Queue Samples) (i0 i1 i2 : S) (o0 o1 o2 : K) (r0 r1 r2 : N) (e : EncodeError) → Passes s → IsSoundQueue q → is_due q ≡ true → p ≡ after_group q
+      → output_faults o0 ≤ output_faults o1 → recon_faults r0 ≤ recon_faults r1 → SoFar s c q (input i0 i1) (output o0 o1) (recon r0 r1) → ReadAhead left input_faults s p i1 i2
+      → GroupStops (book_by c (group_of q)) false (8 * c.total.bytes) (output o1 o2) (recon r1 r2) e → Stops s (input i0 i2) (output o0 o2) (recon r0 r2) e
+  unfolding GroupStops Stops
+  group_stopped s c q p i0 i1 i2 o0 o1 o2 r0 r1 r2 Read passes sound is after fo fr far ahead h = absurd h
+  group_stopped s c q p i0 i1 i2 o0 o1 o2 r0 r1 r2 Write passes sound is after fo fr far ahead h =
+      (by_side h.0, group_cut s c q p i0 i1 i2 o0 o1 o2 r0 r1 r2 passes sound is after far ahead h.1.0 h.1.1)
     where
       by_side : (output o1 o2).Failed ⊎ (recon r1 r2).Failed → (output o0 o2).Failed ⊎ (recon r0 r2).Failed
       by_side (inl f) = inl (rose_since fo f)
       by_side (inr f) = inr (rose_since fr f)
-  due_stopped s c q i0 i1 o0 o1 o2 r0 r1 r2 (ShortFrame extra) passes sound some few size fo fr far (inl h) = absurd h.1
-  due_stopped s c q i0 i1 o0 o1 o2 r0 r1 r2 NoFrames passes sound some few size fo fr far (inl h) = absurd h.1
-  due_stopped s c q i0 i1 o0 o1 o2 r0 r1 r2 TooManyFrames passes sound some few size fo fr far (inl h) = absurd h.1
-  due_stopped s c q i0 i1 o0 o1 o2 r0 r1 r2 Memory passes sound some few size fo fr far (inl h) =
-      group_cut s c q i0 i1 o0 o1 o2 r0 r1 r2 passes sound h.0 some few size far h.1.0 h.1.1
-  due_stopped s c q i0 i1 o0 o1 o2 r0 r1 r2 e passes sound some few size fo fr far (inr h) =
-      subst (Stops s (input i0 i1) (output o0 o2) (recon r0 r2)) (sym h.0)
-      (cut_here s far.frames [] (groups_begun s (at_start s) far.groups) i0 i1 o0 o2 r0 r2 (omega (arith, few, far.count)) far.whole size (no_part (left i0) (left i1) (raw far.frames) far.moved)
-      (front_begun s far.frames far.groups q passes far.handed sound)
-      (subst (λ (t : Option (List ℕ)). GrowsByPrefix (held o0) (packed (groups_begun s (at_start s) far.groups).text) t) (sym h.1.0) (grows_by_all far.grown))
-      (subst (λ (t : Option (List ℕ)). GrowsByPrefix (kept r0) (raw (groups_begun s (at_start s) far.groups).shown) t) (sym h.1.1) (grows_by_all far.shown))
-      (λ none. absurd (omega (arith, none, far.count, some))))
+  group_stopped s c q p i0 i1 i2 o0 o1 o2 r0 r1 r2 (ShortFrame extra) passes sound is after fo fr far ahead h = absurd h
+  group_stopped s c q p i0 i1 i2 o0 o1 o2 r0 r1 r2 NoFrames passes sound is after fo fr far ahead h = absurd h
+  group_stopped s c q p i0 i1 i2 o0 o1 o2 r0 r1 r2 TooManyFrames passes sound is after fo fr far ahead h = absurd h
+  group_stopped s c q p i0 i1 i2 o0 o1 o2 r0 r1 r2 Memory passes sound is after fo fr far ahead h =
+      group_cut s c q p i0 i1 i2 o0 o1 o2 r0 r1 r2 passes sound is after far ahead h.0 h.1
 
   -- ---- the end
 
   pub ended : (s : Settings) (c : Coder) (q : Queue Samples) (i0 i1 i2 : S) (o0 o1 o2 : K) (r0 r1 r2 : N) (t : Summary) → Passes s → is_due q ≡ false → IsSoundQueue (after_end q) → is_due (after_end q) ≡ true
-      → 0 < c.total.frames → c.total.frames ≤ most_frames → SoFar s c q (input i0 i1) (output o0 o1) (recon r0 r1) → Moves (left i1) [] (left i2) → IsAtEnd (left i2)
-      → EndCoded c (book_by c (group_of (after_end q))) (output o1 o2) (recon r1 r2) t → AllCoded s (input i0 i2) (output o0 o2) (recon r0 r2) t
+      → 0 < q.pushed → q.pushed ≤ most_frames → SoFar s c q (input i0 i1) (output o0 o1) (recon r0 r1) → Moves (left i1) [] (left i2) → IsAtEnd (left i2)
+      → EndCoded c q.pushed (book_by c (group_of (after_end q))) (output o1 o2) (recon r1 r2) t → AllCoded s (input i0 i2) (output o0 o2) (recon r0 r2) t
   ended s c q i0 i1 i2 o0 o1 o2 r0 r1 r2 t passes rest sound is some few far moved end coded =
       let st = far.stands in
       let x = groups_begun s (at_start s) far.groups in
@@ -416,19 +376,19 @@ module _ {S K N : Type 0} (left : S → Option (List ℕ)) (input_faults : S →
         st.bytes,
       ) in
       let zero_bytes : t.stuffing ≡ (coded_all s far.frames).zeros / 8 = omega (arith, coded.stuffing, st.stuffing, ap (λ (y : Progress). y.zeros) e) in
-      let count : t.frames ≡ length far.frames = coded.frames ∙ sym far.count in
+      let count : t.frames ≡ length far.frames = coded.frames ∙ far.handed.pushed in
       let pictures : t.pictures ≡ (coded_all s far.frames).pictures = omega (arith, coded.pictures, st.pictures, ap (λ (y : Progress). y.pictures) e) in
       record {
         frames = far.frames;
-        some = omega (arith, some, far.count);
-        most = omega (arith, few, far.count);
+        some = omega (arith, some, far.handed.pushed);
+        most = omega (arith, few, far.handed.pushed);
         whole = far.whole;
         moved = then_nothing (left i0) (left i1) (left i2) (raw far.frames) far.moved moved;
         end = end;
         grown = subst (λ (z : List ℕ). Grows (held o0) z (held o2)) (sym whole) (grows_on far.grown coded.grown);
         shown = subst (λ (z : List ℕ). Grows (kept r0) z (kept r2)) (sym shown) (grows_on far.shown coded.shown);
         numbers = same_summary t.frames _ t.pictures _ t.bytes _ t.stuffing _ count pictures bytes zero_bytes;
-        headline = headline s far.frames passes (omega (arith, some, far.count)) (omega (arith, few, far.count));
+        headline = headline s far.frames passes (omega (arith, some, far.handed.pushed)) (omega (arith, few, far.handed.pushed));
       }
     where
       same_summary : (a x b y c z d w : ℕ) → a ≡ x → b ≡ y → c ≡ z → d ≡ w
@@ -437,7 +397,7 @@ module _ {S K N : Type 0} (left : S → Option (List ℕ)) (input_faults : S →
 
   -- the end was cut off
   end_cut : (s : Settings) (c : Coder) (q : Queue Samples) (i0 i1 i2 : S) (o0 o1 o2 : K) (r0 r1 r2 : N) → Passes s → is_due q ≡ false → IsSoundQueue (after_end q) → is_due (after_end q) ≡ true
-      → 0 < c.total.frames → c.total.frames ≤ most_frames → 0 < frame_bytes (dims_of s) → SoFar s c q (input i0 i1) (output o0 o1) (recon r0 r1) → Moves (left i1) [] (left i2)
+      → 0 < q.pushed → q.pushed ≤ most_frames → 0 < frame_bytes (dims_of s) → SoFar s c q (input i0 i1) (output o0 o1) (recon r0 r1) → Moves (left i1) [] (left i2)
       → EndCut c (book_by c (group_of (after_end q))) (output o1 o2) (recon r1 r2) → CutOff s (input i0 i2) (output o0 o2) (recon r0 r2)
   end_cut s c q i0 i1 i2 o0 o1 o2 r0 r1 r2 passes rest sound is some few size far moved cut =
       let st = far.stands in
@@ -450,19 +410,19 @@ module _ {S K N : Type 0} (left : S → Option (List ℕ)) (input_faults : S →
       record {
         frames = far.frames;
         part = [];
-        most = omega (arith, few, far.count);
+        most = omega (arith, few, far.handed.pushed);
         whole = far.whole;
         less = size;
         moved = no_part (left i0) (left i2) (raw far.frames) (then_nothing (left i0) (left i1) (left i2) (raw far.frames) far.moved moved);
         grown = subst (λ (z : List ℕ). GrowsByPrefix (held o0) z (held o2)) (sym whole) (prefix_on far.grown cut.grown);
         shown = subst (λ (z : List ℕ). GrowsByPrefix (kept r0) z (kept r2)) (sym shown) (prefix_on far.shown cut.shown);
-        unwritten = λ none. absurd (omega (arith, none, far.count, some));
+        unwritten = λ none. absurd (omega (arith, none, far.handed.pushed, some));
       }
 
   -- where a group is left at the end, frames were read
   due_frames : (s : Settings) (c : Coder) (q : Queue Samples) (i0 i1 : S) (o0 o1 : K) (r0 r1 : N) → SoFar s c q (input i0 i1) (output o0 o1) (recon r0 r1) → IsSoundQueue (after_end q)
-      → is_due (after_end q) ≡ true → 0 < c.total.frames
-  due_frames s c q i0 i1 o0 o1 r0 r1 far sound is = omega (arith, (due_is (after_end q) is).some, sound.room, far.handed.pushed, far.count)
+      → is_due (after_end q) ≡ true → 0 < q.pushed
+  due_frames s c q i0 i1 o0 o1 r0 r1 far sound is = omega (arith, (due_is (after_end q) is).some, sound.room)
 
   no_frames : (s : Settings) (c : Coder) (q : Queue Samples) (i0 i1 : S) (o0 o1 : K) (r0 r1 : N) → (far : SoFar s c q (input i0 i1) (output o0 o1) (recon r0 r1)) → IsSoundQueue q
       → is_due (after_end q) ≡ false → length far.frames ≡ 0
@@ -477,7 +437,7 @@ module _ {S K N : Type 0} (left : S → Option (List ℕ)) (input_faults : S →
       is_false false e f = absurd cc
 
   pub end_stopped : (s : Settings) (c : Coder) (q : Queue Samples) (i0 i1 i2 : S) (o0 o1 o2 : K) (r0 r1 r2 : N) (e : EncodeError) → Passes s → is_due q ≡ false → IsSoundQueue q → IsSoundQueue (after_end q)
-      → c.total.frames ≤ most_frames → 0 < frame_bytes (dims_of s) → output_faults o0 ≤ output_faults o1 → recon_faults r0 ≤ recon_faults r1
+      → q.pushed ≤ most_frames → 0 < frame_bytes (dims_of s) → output_faults o0 ≤ output_faults o1 → recon_faults r0 ≤ recon_faults r1
       → SoFar s c q (input i0 i1) (output o0 o1) (recon r0 r1) → Moves (left i1) [] (left i2) → IsAtEnd (left i2)
       → EndStops c (after_end q) (output o1 o2) (recon r1 r2) e → Stops s (input i0 i2) (output o0 o2) (recon r0 r2) e
   unfolding EndStops Stops
@@ -501,7 +461,7 @@ module _ {S K N : Type 0} (left : S → Option (List ℕ)) (input_faults : S →
   end_stopped s c q i0 i1 i2 o0 o1 o2 r0 r1 r2 Memory passes rest sound ending few size fo fr far moved end (inl h) =
       end_cut s c q i0 i1 i2 o0 o1 o2 r0 r1 r2 passes rest ending h.0 (due_frames s c q i0 i1 o0 o1 r0 r1 far ending h.0) few size far moved h.1
   end_stopped s c q i0 i1 i2 o0 o1 o2 r0 r1 r2 Memory passes rest sound ending few size fo fr far moved end (inr h) =
-      cut_here s far.frames [] (groups_begun s (at_start s) far.groups) i0 i2 o0 o2 r0 r2 (omega (arith, few, far.count)) far.whole size
+      cut_here s far.frames [] (groups_begun s (at_start s) far.groups) i0 i2 o0 o2 r0 r2 (omega (arith, few, far.handed.pushed)) far.whole size
       (no_part (left i0) (left i2) (raw far.frames) (then_nothing (left i0) (left i1) (left i2) (raw far.frames) far.moved moved))
       (front_begun s far.frames far.groups q passes far.handed sound)
       (subst (λ (t : Option (List ℕ)). GrowsByPrefix (held o0) (packed (groups_begun s (at_start s) far.groups).text) t) (sym h.1.0) (grows_by_all far.grown))
@@ -509,7 +469,7 @@ module _ {S K N : Type 0} (left : S → Option (List ℕ)) (input_faults : S →
       (λ none. let same = far.unwritten none in (h.0 ∙ same.0, h.1.1.0 ∙ same.1))
 
   -- a byte behind the last frame was looked for in vain
-  pub look_stopped : (s : Settings) (c : Coder) (q : Queue Samples) (i0 i1 i2 : S) (o0 o1 : K) (r0 r1 : N) (e : EncodeError) → Passes s → IsSoundQueue q → c.total.frames ≤ most_frames
+  pub look_stopped : (s : Settings) (c : Coder) (q : Queue Samples) (i0 i1 i2 : S) (o0 o1 : K) (r0 r1 : N) (e : EncodeError) → Passes s → IsSoundQueue q → q.pushed ≤ most_frames
       → 0 < frame_bytes (dims_of s) → is_due q ≡ false → input_faults i0 ≤ input_faults i1
       → SoFar s c q (input i0 i1) (output o0 o1) (recon r0 r1) → ReadStops 1 (input i1 i2) e → Stops s (input i0 i2) (output o0 o1) (recon r0 r1) e
   unfolding ReadStops Stops
@@ -530,7 +490,7 @@ module _ {S K N : Type 0} (left : S → Option (List ℕ)) (input_faults : S →
       lost_here s c q h.part i0 i1 i2 o0 o1 r0 r1 passes sound few far h.moved (omega (arith, h.fewer, some))
 
   -- a byte is there
-  pub went_on : (s : Settings) (c : Coder) (q : Queue Samples) (next : ℕ) (i0 i1 i2 : S) (o0 o1 : K) (r0 r1 : N) → c.total.frames ≡ most_frames → is_due q ≡ false
+  pub went_on : (s : Settings) (c : Coder) (q : Queue Samples) (next : ℕ) (i0 i1 i2 : S) (o0 o1 : K) (r0 r1 : N) → q.pushed ≡ most_frames → is_due q ≡ false
       → SoFar s c q (input i0 i1) (output o0 o1) (recon r0 r1) → (next < 256) × Moves (left i1) (next ∷ []) (left i2) → Stops s (input i0 i2) (output o0 o1) (recon r0 r1) TooManyFrames
   unfolding Stops
   went_on s c q next i0 i1 i2 o0 o1 r0 r1 all rest far moved = record {
@@ -538,7 +498,7 @@ module _ {S K N : Type 0} (left : S → Option (List ℕ)) (input_faults : S →
     next = next;
     begun = begun_here s c q (next ∷ []) i0 i1 i2 o0 o1 r0 r1 (omega (arith, all)) rest far moved.1;
     byte = moved.0;
-    all = far.count ∙ all;
+    all = sym far.handed.pushed ∙ all;
   }
 
   -- no memory was left before a byte was read
@@ -558,41 +518,16 @@ module _ {S K N : Type 0} (left : S → Option (List ℕ)) (input_faults : S →
 
   -- ---- as the loop asks for it
 
-  -- the input has ended, and nothing else changed
-  pub so_far_same : (s : Settings) (c d : Coder) (q r : Queue Samples) (i0 i1 : S) (o0 o1 : K) (r0 r1 : N) → SoFar s c q (input i0 i1) (output o0 o1) (recon r0 r1)
-      → d ≡ record c { raw = d.raw; total = d.total } → d.total ≡ c.total → r ≡ q → SoFar s d r (input i0 i1) (output o0 o1) (recon r0 r1)
-  so_far_same s c d q r i0 i1 o0 o1 r0 r1 far rest total same =
-      let st = far.stands in
-      record {
-        frames = far.frames;
-        groups = far.groups;
-        count = far.count ∙ sym (ap (λ (t : Summary). t.frames) total);
-        whole = far.whole;
-        moved = far.moved;
-        handed = subst (HandedOut s far.frames far.groups) (sym same) far.handed;
-        settings = ap (λ (x : Coder). x.settings) rest ∙ far.settings;
-        stands = record {
-          ledger = ap (λ (x : Coder). x.ledger) rest ∙ st.ledger;
-          before = ap (λ (x : Coder). x.before) rest ∙ st.before;
-          pictures = ap (λ (t : Summary). t.pictures) total ∙ st.pictures;
-          bytes = ap (λ (t : Summary). 8 * t.bytes) total ∙ st.bytes;
-          stuffing = ap (λ (t : Summary). 8 * t.stuffing) total ∙ st.stuffing;
-        };
-        grown = far.grown;
-        shown = far.shown;
-        unwritten = far.unwritten;
-      }
-
   pub all_ended : (s : Settings) (c : Coder) (q : Queue Samples) (i0 i1 i2 : S) (o0 o1 o2 : K) (r0 r1 r2 : N) (result : Result Summary EncodeError) → Passes s → IsSoundQueue q → is_due q ≡ false
-      → c.total.frames ≤ most_frames → SoFar s c q (input i0 i1) (output o0 o1) (recon r0 r1) → Moves (left i1) [] (left i2) → IsAtEnd (left i2)
-      → OnOk result (is_due (after_end q) ≡ true) → IfOk result (EndCoded c (book_by c (group_of (after_end q))) (output o1 o2) (recon r1 r2))
+      → q.pushed ≤ most_frames → SoFar s c q (input i0 i1) (output o0 o1) (recon r0 r1) → Moves (left i1) [] (left i2) → IsAtEnd (left i2)
+      → OnOk result (is_due (after_end q) ≡ true) → IfOk result (EndCoded c q.pushed (book_by c (group_of (after_end q))) (output o1 o2) (recon r1 r2))
       → IfOk result (AllCoded s (input i0 i2) (output o0 o2) (recon r0 r2))
   all_ended s c q i0 i1 i2 o0 o1 o2 r0 r1 r2 (Ok t) passes sound rest few far moved end is coded =
       ended s c q i0 i1 i2 o0 o1 o2 r0 r1 r2 t passes rest (sound_end q sound) is (due_frames s c q i0 i1 o0 o1 r0 r1 far (sound_end q sound) is) few far moved end coded
   all_ended s c q i0 i1 i2 o0 o1 o2 r0 r1 r2 (Err e) passes sound rest few far moved end is coded = tt
 
   pub all_stopped : (s : Settings) (c : Coder) (q : Queue Samples) (i0 i1 i2 : S) (o0 o1 o2 : K) (r0 r1 r2 : N) (result : Result Summary EncodeError) → Passes s → IsSoundQueue q → is_due q ≡ false
-      → c.total.frames ≤ most_frames → 0 < frame_bytes (dims_of s) → output_faults o0 ≤ output_faults o1 → recon_faults r0 ≤ recon_faults r1
+      → q.pushed ≤ most_frames → 0 < frame_bytes (dims_of s) → output_faults o0 ≤ output_faults o1 → recon_faults r0 ≤ recon_faults r1
       → SoFar s c q (input i0 i1) (output o0 o1) (recon r0 r1) → Moves (left i1) [] (left i2) → IsAtEnd (left i2)
       → IfErr result (EndStops c (after_end q) (output o1 o2) (recon r1 r2)) → IfErr result (Stops s (input i0 i2) (output o0 o2) (recon r0 r2))
   all_stopped s c q i0 i1 i2 o0 o1 o2 r0 r1 r2 (Ok t) passes sound rest few size fo fr far moved end stops = tt

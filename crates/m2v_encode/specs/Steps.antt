@@ -1,14 +1,16 @@
 -- The steps of coding a raw input: what stands after some frames, and what a step does.
-use Rattle.std.specs.Prelude.{ℕ, ◌≡◌, ◌+◌, ◌*◌, ◌<◌, ◌≤◌, ◌^◌, ◌⊎◌, Bool, true, false, List, [], ◌++◌, map, length, vec_len, IfSome, All, is_some}
+use Rattle.std.specs.Prelude.{ℕ, ◌≡◌, ◌+◌, ◌*◌, ◌<◌, ◌≤◌, ◌^◌, ◌⊎◌, Bool, true, false, List, [], ◌∷◌, ◌++◌, map, length, vec_len, Option, Some, None, IfSome, All, is_some, Result, IfOk, IfErr, OnOk}
 use Rattle.m2v_bits.specs.Bits.{packed, start_code}
-use Rattle.m2v_port.specs.Ends.{Change}
+use Rattle.m2v_port.specs.Ends.{Change, change}
 use Rattle.m2v_port.specs.Port.{Moves, MovesFewer, IsAtEnd, Grows, GrowsByPrefix}
 use Rattle.m2v_plane.specs.Raw.{frame_bytes, raw, pad}
 use Rattle.m2v_plane.specs.Samples.{Samples}
 use Rattle.m2v_set.specs.declared.settings.Settings.{Settings}
 use Rattle.m2v_set.specs.Numbers.{dims_of}
 use Rattle.m2v_order.specs.declared.jobs.PictureJob.{PictureJob}
-use Rattle.m2v_order.specs.Groups.{Queue, Group, is_due, group_of, after_push, after_group, followed}
+use Rattle.m2v_order.specs.declared.jobs.GroupJobs.{GroupJobs}
+use Rattle.m2v_order.specs.Groups.{Queue, Group, is_due, group_of, after_push, after_group, followed, IsSoundQueue}
+use Rattle.m2v_order.specs.Whole.{IsGroupOf, handed}
 use Rattle.m2v_order.specs.Times.{intervals_of}
 use Rattle.m2v_rate.specs.Plans.{account_at, begun}
 use Rattle.m2v_rate.specs.Steady.{IsSteady}
@@ -18,7 +20,8 @@ use Rattle.m2v_encode.specs.declared.answer.Summary.{Summary}
 use Rattle.m2v_encode.specs.declared.answer.EncodeError.{EncodeError}
 use Rattle.m2v_encode.specs.declared.answer.EncodeError.TheVariants.{Read, Write, ShortFrame, NoFrames, TooManyFrames, Memory}
 use Rattle.m2v_encode.specs.declared.group.Coder.{Coder}
-use Rattle.m2v_encode.specs.Answers.{AreWhole}
+use Rattle.m2v_encode.specs.declared.intake.Intake.{Intake}
+use Rattle.m2v_encode.specs.Answers.{AreWhole, most_frames}
 use Rattle.m2v_encode.specs.Groups.{whole_ledger, group_text, group_shown, anchor_behind, IsPlace}
 
 -- ---- bytes
@@ -63,9 +66,10 @@ book_by c g = record {
       (picture_activities c.settings g.frames g.pictures);
 }
 
--- a coder has room for a frame's bytes and for a picture's headers, and the posts that it kept are for groups of its settings
+-- a coder has room for a picture's headers, and for a frame's bytes where frames are shown; and the posts that it kept are for
+-- groups of its settings
 pub record HasRoom (c : Coder) : Type 0 where
-  pub raw : vec_len c.raw ≡ frame_bytes (dims_of c.settings)
+  pub raw : c.shown ≡ true → vec_len c.raw ≡ frame_bytes (dims_of c.settings)
   pub headers : 384 ≤ c.headers.room + length c.headers.written
   pub kept : IfSome c.kept (λ s. s ≡ c.settings)
 
@@ -85,6 +89,12 @@ pub record GoesOn (c : Coder) (coded : Bool) : Type 0 where
   pub place : IsPlace c.settings (account_at c.ledger (length c.ledger.kinds)) (8 * c.total.bytes)
   pub before : is_some c.before ≡ coded
   pub size : IfSome c.before (λ f. f.dims ≡ dims_of c.settings)
+
+-- a group that was handed out can be coded
+pub record CanCode (s : Settings) (g : GroupJobs) : Type 0 where
+  pub group : IsGroupOf s (handed g)
+  pub sizes : All (λ (f : Samples). f.dims ≡ dims_of s) g.frames.items
+  pub early : All (λ (j : PictureJob). j.display < 1000000) g.pictures.items
 
 -- a group was coded, and its bytes and frames written
 pub record GroupCoded (old new : Coder) (b : Book) (ends : Bool) (held recon : Change) : Type 0 where
@@ -150,6 +160,96 @@ FrameStops s left NoFrames = ⊥
 FrameStops s left TooManyFrames = ⊥
 FrameStops s left Memory = MovesFewer left.old (frame_bytes (dims_of s)) left.new ⊎ FrameLost s left
 
+-- ---- frames up to the next group
+
+-- an intake has room for a frame's bytes and counts the frames that were pushed; no group is due
+pub record CanRead (t : Intake) : Type 0 where
+  pub raw : vec_len t.raw ≡ frame_bytes (dims_of t.settings)
+  pub settings : t.queue.settings ≡ t.settings
+  pub going : t.queue.ended ≡ false
+  pub count : t.queue.pushed ≡ t.count
+  pub most : t.count ≤ most_frames
+  pub sound : IsSoundQueue t.queue
+  pub rest : is_due t.queue ≡ false
+
+-- a group was handed out of a queue, and can be coded
+pub record GroupOut (s : Settings) (old new : Queue Samples) (g : GroupJobs) : Type 0 where
+  pub due : is_due old ≡ true
+  pub is : handed g ≡ group_of old
+  pub after : new ≡ after_group old
+  pub group : CanCode s g
+
+-- the last frame was read: the input has ended, or it had the most frames
+pub record NoneOut (old new : Queue Samples) (left : Option (List ℕ)) : Type 0 where
+  pub rest : is_due old ≡ false
+  pub same : new ≡ old
+  pub end : old.pushed < most_frames → IsAtEnd left
+
+-- the group that is due was handed out, or none will be before the end
+unfoldable pub HandsOut : Settings → Queue Samples → Queue Samples → Option (List ℕ) → Option GroupJobs → Type 0
+HandsOut s old new left (Some g) = GroupOut s old new g
+HandsOut s old new left None = NoneOut old new left
+
+-- more than the most frames are there
+pub record WentPast (count : ℕ) (old new : Option (List ℕ)) : Type 0 where
+  pub all : most_frames ≤ count
+  pub byte : ℕ
+  pub small : byte < 256
+  pub moved : Moves old (byte ∷ []) new
+
+-- The states of the input are i0 and i1.
+module _ {S : Type 0} (left : S → Option (List ℕ)) (faults : S → ℕ) where
+  -- some frames were read, and wait
+  pub record ReadsOn (s : Settings) (old new : Queue Samples) (i0 i1 : S) : Type 0 where
+    pub frames : List (List ℕ)
+    pub whole : AreWhole s frames
+    pub moved : Moves (left i0) (raw frames) (left i1)
+    pub pushed : new ≡ followed old (map (pad (dims_of s)) frames) false
+    pub rises : faults i0 ≤ faults i1
+
+  -- frames were read up to the next group, which is handed out, or to the last frame
+  pub record Comes (s : Settings) (old new : Queue Samples) (i0 i1 : S) (next : Option GroupJobs) : Type 0 where
+    pub queue : Queue Samples
+    pub reads : ReadsOn s old queue i0 i1
+    pub most : queue.pushed ≤ most_frames
+    pub sound : IsSoundQueue queue
+    pub out : HandsOut s queue new (left i1) next
+    pub more : is_some next ≡ true → old.pushed < queue.pushed
+
+  -- some frames were read, and no group is due; then a frame is there no more, or has no room
+  pub record ReadingStops (s : Settings) (old : Queue Samples) (i0 i2 : S) (e : EncodeError) : Type 0 where
+    pub queue : Queue Samples
+    pub between : S
+    pub reads : ReadsOn s old queue i0 between
+    pub sound : IsSoundQueue queue
+    pub rest : is_due queue ≡ false
+    pub fewer : queue.pushed < most_frames
+    pub stops : FrameStops s (change left faults between i2) e
+
+  -- what reading up to the next group answers
+  pub record ReadsNext (old new : Intake) (i0 i1 : S) (result : Result (Option GroupJobs) EncodeError) : Type 0 where
+    pub ok : IfOk result (Comes old.settings old.queue new.queue i0 i1)
+    pub ready : OnOk result (CanRead new)
+    pub err : IfErr result (ReadingStops old.settings old.queue i0 i1)
+    pub settings : new.settings ≡ old.settings
+    pub rises : faults i0 ≤ faults i1
+
+  -- whole frames were read, and perhaps a part of the next
+  pub record ReadAhead (s : Settings) (old : Queue Samples) (i0 i1 : S) : Type 0 where
+    pub frames : List (List ℕ)
+    pub part : List ℕ
+    pub most : old.pushed + length frames ≤ most_frames
+    pub whole : AreWhole s frames
+    pub less : length part < frame_bytes (dims_of s)
+    pub moved : Moves (left i0) (raw frames ++ part) (left i1)
+
+  -- why a group wasn't coded and the next one read: the group stopped, whatever was read meanwhile; or it was coded and written,
+  -- and reading stopped
+  abbrev pub BesideStops : Book → Coder → Coder → Intake → S → S → Change → Change → EncodeError → Type 0
+  BesideStops b c d t i0 i1 held recon e =
+      (GroupStops b false (8 * c.total.bytes) held recon e × ReadAhead t.settings t.queue i0 i1)
+      ⊎ (GroupCoded c d b false held recon × ReadingStops t.settings t.queue i0 i1 e)
+
 -- ---- so far
 
 -- these groups were handed out of a queue of frames, and they stand in front of the groups of all frames, whatever follows
@@ -169,11 +269,10 @@ pub record Stands (x : Progress) (c : Coder) : Type 0 where
   pub bytes : 8 * c.total.bytes ≡ length x.text
   pub stuffing : 8 * c.total.stuffing ≡ x.zeros
 
--- So many frames were read; the groups that were handed out are coded, and their bytes and frames written.
+-- Some frames were read; the groups that were handed out are coded, and their bytes and frames written.
 pub record SoFar (s : Settings) (c : Coder) (q : Queue Samples) (left held recon : Change) : Type 0 where
   pub frames : List (List ℕ)
   pub groups : List (Group Samples)
-  pub count : length frames ≡ c.total.frames
   pub whole : AreWhole s frames
   pub moved : Moves left.old (raw frames) left.new
   pub handed : HandedOut s frames groups q
@@ -183,28 +282,17 @@ pub record SoFar (s : Settings) (c : Coder) (q : Queue Samples) (left held recon
   pub shown : Grows recon.old (raw (groups_begun s (at_start s) groups).shown) recon.new
   pub unwritten : length frames ≡ 0 → held.Unchanged × recon.Unchanged
 
--- the group that is due was coded, if one is
-pub record DueCoded (old new : Coder) (before after : Queue Samples) (held recon : Change) : Type 0 where
-  pub due : is_due before ≡ true → (after ≡ after_group before) × GroupCoded old new (book_by old (group_of before)) false held recon
-  pub rest : is_due before ≡ false → (after ≡ before) × ((new ≡ old) × ((held.new ≡ held.old) × (recon.new ≡ recon.old)))
-
--- why the group that is due wasn't coded
-unfoldable pub DueStops : Coder → Queue Samples → Change → Change → EncodeError → Type 0
-DueStops c q held recon e =
-    ((is_due q ≡ true) × GroupStops (book_by c (group_of q)) false (8 * c.total.bytes) held recon e)
-    ⊎ ((e ≡ Memory) × ((held.new ≡ held.old) × (recon.new ≡ recon.old)))
-
 -- ---- the end
 
 -- the bytes of the last group, and of the sequence end code
 abbrev pub end_bytes : Book → ℕ → List ℕ
 end_bytes b at = packed (group_text b true at ++ start_code 0xB7)
 
--- the last group and the end code were written
-pub record EndCoded (c : Coder) (b : Book) (held recon : Change) (t : Summary) : Type 0 where
+-- the last group of so many frames and the end code were written
+pub record EndCoded (c : Coder) (count : ℕ) (b : Book) (held recon : Change) (t : Summary) : Type 0 where
   pub grown : Grows held.old (end_bytes b (8 * c.total.bytes)) held.new
   pub shown : Grows recon.old (raw (group_shown b)) recon.new
-  pub frames : t.frames ≡ c.total.frames
+  pub frames : t.frames ≡ count
   pub pictures : t.pictures ≡ c.total.pictures + length b.pictures
   pub bytes : 8 * t.bytes ≡ 8 * c.total.bytes + length (group_text b true (8 * c.total.bytes)) + 32
   pub stuffing : 8 * t.stuffing ≡ 8 * c.total.stuffing + zeros_sum (whole_ledger b) true (length b.pictures)

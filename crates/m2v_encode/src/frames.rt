@@ -141,7 +141,8 @@ impl DoneGroup {
         buffer: &mut [u8],
         recon: &mut K,
     ) -> Result<Option<Frame>, EncodeError>
-        requires buffer { length buffer.old ≡ frame_bytes (dims_of self.now.settings) }
+        requires buffer { shown ≡ true
+            → length buffer.old ≡ frame_bytes (dims_of self.now.settings) }
         requires recon { IsTrue (K.ready recon.old) }
         requires unshown { shown ≡ false → K.held recon.old ≡ None }
         ensures grown { OnOk result (Grows (K.held recon.old) (raw (group_shown self.now))

@@ -1,44 +1,44 @@
 //! A group of pictures, coded and written.
-ghost use Rattle.std.specs.Prelude.{◌≡◌, ℕ, ◌+◌, ◌*◌, ◌≤◌, ◌<◌, false, true, Bool, None, ◌^◌, All, IsTrue, IfOk, IfErr, OnOk, IfSome, length, map, vec_len, is_some};
+ghost use Rattle.std.specs.Prelude.{◌≡◌, ◌*◌, ◌≤◌, ◌<◌, false, true, Bool, None, ◌^◌, All, IsTrue, IfOk, IfErr, OnOk, IfSome, length, map, is_some};
 ghost use Rattle.m2v_port.specs.Ends.{change, SinkStays};
-ghost use Rattle.m2v_plane.specs.Samples.{Samples};
+ghost use Rattle.m2v_plane.specs.Raw.{frame_bytes};
 ghost use Rattle.m2v_set.specs.Numbers.{dims_of, rows_by};
 ghost use Rattle.m2v_set.specs.Rules.{is_even};
 ghost use Rattle.m2v_rate.specs.Sharing.{IsPictureActivity};
 ghost use Rattle.m2v_order.specs.declared.jobs.PictureJob.{PictureJob};
 ghost use Rattle.m2v_order.specs.Times.{intervals_of};
-ghost use Rattle.m2v_order.specs.Whole.{IsGroupOf, handed};
-ghost use Rattle.m2v_rate.specs.Plans.{fresh, begun};
-ghost use Rattle.m2v_slice.specs.Books.{rows};
-ghost use Rattle.m2v_encode.specs.Steps.{HasRoom, IsFew, GoesOn, GroupCoded, GroupStops, book_by};
+ghost use Rattle.m2v_order.specs.Whole.{handed};
+ghost use Rattle.m2v_rate.specs.Plans.{account_at, fresh, begun};
+ghost use Rattle.m2v_slice.specs.Conditions.{IsBook};
+ghost use Rattle.m2v_encode.specs.Groups.{whole_ledger, IsPlace};
+ghost use Rattle.m2v_encode.specs.Ready.{IsReady};
+ghost use Rattle.m2v_encode.specs.Steps.{HasRoom, IsFew, GoesOn, GroupCoded, GroupStops, CanCode, book_by};
 
 use crate::answer::{EncodeError, Summary};
-use crate::crew::Crew;
 use crate::done::DoneGroup;
 use crate::kept::{KeptPosts, bench_for};
+use crate::ready::ReadyGroup;
 use m2v_bits::BitWriter;
-use m2v_board::Gate;
 use m2v_order::{GroupJobs, PictureJob, intervals};
 use m2v_plane::{Frame, Memory, bytes_of};
 use m2v_port::Sink;
 use m2v_rate::Ledger;
 use m2v_set::{Passed, Scan};
 use m2v_slice::{EncodeBook, GroupActivities, source_activities};
-use m2v_wave::run_jobs;
 use std::alloc::Global;
-use std::sync::Wait;
-use std::thread::Threads;
 
 /// Room for the headers of a picture.
 const HEADERS: usize = 48;
 
-/// What coding group after group needs: the ledger of the group before, the reconstruction of the last anchor, room for a
-/// frame's bytes and for a picture's headers, the numbers so far, and the posts of the group before.
+/// What coding group after group needs: the ledger of the group before, the reconstruction of the last anchor, whether frames
+/// are shown, room for a shown frame's bytes and for a picture's headers, the numbers so far, in which the frames are not
+/// counted, and the posts of the group before.
 #[derive(Drop)]
 pub(crate) struct Coder {
     pub(crate) settings: Passed,
     pub(crate) ledger: Ledger,
     pub(crate) before: Option<Frame>,
+    pub(crate) shown: bool,
     pub(crate) raw: Vec<u8>,
     pub(crate) headers: BitWriter,
     pub(crate) total: Summary,
@@ -80,10 +80,18 @@ fn rows_of(settings: &Passed) -> u32
     }
 }
 
+/// The bytes of a frame where frames are shown.
+fn shown_bytes(settings: &Passed, shown: bool) -> usize
+    ensures value { shown ≡ true → result ≡ frame_bytes (dims_of settings.now) }
+{
+    if shown { bytes_of(settings.dims()) } else { 0 }
+}
+
 impl Coder {
-    /// Room for one frame and for a picture's headers, with nothing coded.
-    pub(crate) fn new(alloc: Global, settings: &Passed) -> Result<Coder, Memory>
+    /// Room for a picture's headers, and for one frame where frames are shown, with nothing coded.
+    pub(crate) fn new(alloc: Global, settings: &Passed, shown: bool) -> Result<Coder, Memory>
         ensures settings { IfOk result (λ c. c.settings ≡ settings.now) }
+        ensures shown { IfOk result (λ c. c.shown ≡ shown) }
         ensures room { IfOk result HasRoom }
         ensures ledger { IfOk result (λ c. c.ledger ≡ fresh settings.now) }
         ensures before { IfOk result (λ c. c.before ≡ None) }
@@ -98,7 +106,8 @@ impl Coder {
             settings: *settings,
             ledger: Ledger::start(settings),
             before: None,
-            raw: vec![in alloc; 0; bytes_of(settings.dims())]?,
+            shown,
+            raw: vec![in alloc; 0; shown_bytes(settings, shown)]?,
             headers: BitWriter::over(vec![in alloc; 0; HEADERS]?),
             total: Summary {
                 frames: 0,
@@ -140,27 +149,21 @@ impl Coder {
         Ok(times)
     }
 
-    /// Makes a book of the group, and does its jobs by as many workers as the settings say.
-    fn do_jobs<R: Threads + Wait + Sync, G: Gate + Sync>(
-        &mut self,
-        crew: &Crew<R, G>,
-        group: GroupJobs,
-    ) -> Result<DoneGroup, Memory>
+    /// Makes a book of the group, and a bench for its jobs.
+    pub(crate) fn prepare(&mut self, alloc: Global, group: GroupJobs) -> Result<ReadyGroup, Memory>
         requires going { GoesOn self.old (is_some group.before) }
         requires few { IsFew self.old.total }
-        requires group { IsGroupOf self.old.settings (handed group) }
-        requires sizes { All (λ (f : Samples). f.dims ≡ dims_of self.old.settings)
-            group.frames.items }
-        requires early { All (λ (j : PictureJob). j.display < 1000000) group.pictures.items }
+        requires group { CanCode self.old.settings group }
         requires kept { IfSome self.old.kept (λ s. s ≡ self.old.settings) }
-        ensures value { IfOk result (λ d. d ≡ book_by self.old (handed group)) }
+        ensures value { IfOk result (λ r. r.book ≡ book_by self.old (handed group)) }
+        ensures ready { IfOk result IsReady }
         ensures settings { self.new.settings ≡ self.old.settings }
+        ensures shown { self.new.shown ≡ self.old.shown }
         ensures total { self.new.total ≡ self.old.total }
         ensures raw { self.new.raw ≡ self.old.raw }
         ensures headers { self.new.headers ≡ self.old.headers }
         ensures kept { IfSome self.new.kept (λ s. s ≡ self.new.settings) }
     {
-        let alloc = crew.alloc;
         let pictures = copy_of(alloc, &group.pictures)?;
         let frames = group.frames.len() as u32;
         let rows = rows_of(&self.settings);
@@ -181,56 +184,51 @@ impl Coder {
         )?;
         let workers = self.settings.settings().workers;
         let bench = bench_for(alloc, &book, workers, self.kept.take())?;
-        let done = run_jobs(crew.rt, &book, bench, crew.gate);
-        Ok(DoneGroup {
+        Ok(ReadyGroup {
             settings: self.settings,
             pictures,
             frames,
             rows,
             times,
-            done,
+            book,
+            bench,
         })
     }
 
-    /// Codes a group of the settings, and writes its bytes to output and its frames, where they are shown, to recon. `ends`
-    /// tells that it is the last one of the stream.
-    pub(crate) fn code_group<R: Threads + Wait + Sync, K: Sink, N: Sink, G: Gate + Sync>(
+    /// Writes the bytes of a group whose jobs are done to output, and its frames, where they are shown, to recon. `ends` tells
+    /// that it is the last one of the stream.
+    pub(crate) fn put_group<K: Sink, N: Sink>(
         &mut self,
-        crew: &Crew<R, G>,
-        shown: bool,
-        group: GroupJobs,
+        alloc: Global,
+        done: DoneGroup,
         ends: bool,
         output: &mut K,
         recon: &mut N,
     ) -> Result<(), EncodeError>
         requires room { HasRoom self.old }
-        requires going { GoesOn self.old (is_some group.before) }
+        requires settings { done.settings ≡ self.old.settings }
+        requires place { IsPlace done.settings (account_at (whole_ledger done) 0)
+            (8 * self.old.total.bytes) }
         requires few { IsFew self.old.total }
-        requires group { IsGroupOf self.old.settings (handed group) }
-        requires sizes { All (λ (f : Samples). f.dims ≡ dims_of self.old.settings)
-            group.frames.items }
-        requires early { All (λ (j : PictureJob). j.display < 1000000) group.pictures.items }
         requires output { IsTrue (K.ready output.old) }
         requires recon { IsTrue (N.ready recon.old) }
-        requires unshown { shown ≡ false → N.held recon.old ≡ None }
-        ensures coded { OnOk result (GroupCoded self.old self.new (book_by self.old (handed group))
-            ends
+        requires unshown { self.old.shown ≡ false → N.held recon.old ≡ None }
+        ensures coded { OnOk result (GroupCoded self.old self.new done ends
             (change K.held K.faults output.old output.new)
             (change N.held N.faults recon.old recon.new)) }
-        ensures err { IfErr result
-            (GroupStops (book_by self.old (handed group)) ends (8 * self.old.total.bytes)
+        ensures err { IfErr result (GroupStops done ends (8 * self.old.total.bytes)
             (change K.held K.faults output.old output.new)
             (change N.held N.faults recon.old recon.new)) }
+        ensures book { IsBook done }
+        ensures place { OnOk result (ends ≡ false → IsPlace done.settings
+            (account_at (whole_ledger done) (length done.pictures)) (8 * self.new.total.bytes)) }
         ensures room { HasRoom self.new }
-        ensures going { OnOk result (ends ≡ false → GoesOn self.new true) }
+        ensures shown { self.new.shown ≡ self.old.shown }
         ensures few { OnOk result ((self.new.total.bytes ≤ 2 ^ 21 * self.new.total.pictures)
             × (self.new.total.stuffing ≤ self.new.total.bytes)) }
         ensures output { SinkStays K.ready K.name K.faults output.old output.new }
         ensures recon { SinkStays N.ready N.name N.faults recon.old recon.new }
     {
-        let Ok(done) = self.do_jobs(crew, group) else {
-            return Err(EncodeError::Memory);
-        };
         // a group that is done has its book
         let _book = done.pictures();
         self.ledger = done.ledger();
@@ -241,7 +239,7 @@ impl Coder {
             &mut self.total,
             output,
         )?;
-        self.before = done.put_shown(crew.alloc, shown, &mut self.raw, recon)?;
+        self.before = done.put_shown(alloc, self.shown, &mut self.raw, recon)?;
         self.kept = Some(done.into_kept());
         Ok(())
     }

@@ -11,9 +11,11 @@ mod crew;
 mod done;
 mod frames;
 mod group;
+mod intake;
 mod kept;
 mod pictures;
 mod reading;
+mod ready;
 mod unshown;
 mod whole;
 

@@ -13,19 +13,19 @@ use Rattle.m2v_encode.specs.declared.group.Coder.{Coder}
 use Rattle.m2v_slice.proofs.Begun.{begun_for}
 use Rattle.m2v_slice.proofs.Activities.{length-picture_activities}
 use Rattle.m2v_encode.proofs.Books.{same_book, begun_is, done_is}
-use Rattle.m2v_encode.proofs.group.Coder.do_jobs.Goals as goal
+use Rattle.m2v_encode.proofs.group.Coder.prepare.Goals as goal
 
 pub begin_group-requires-clause-active : goal.begin_group-requires-clause-active
-begin_group-requires-clause-active g c =
+begin_group-requires-clause-active c =
     let pics = c.deref-2.ensures.value ∙ c.in_ok-pictures.ensures.value ∙ c.deref.ensures.value in
     ap length (c.deref-3.ensures.value ∙ c.in_ok-active.ensures.pictures)
     ∙ length-picture_activities c.args.self.now.settings c.args.group.frames.items c.args.group.pictures.items ∙ sym (ap length pics)
 
 pub begin_group-requires-clause-activities : goal.begin_group-requires-clause-activities
-begin_group-requires-clause-activities g c = λ even. subst (All IsPictureActivity) (sym c.deref-3.ensures.value) (c.in_ok-active.ensures.sums even)
+begin_group-requires-clause-activities c = λ even. subst (All IsPictureActivity) (sym c.deref-3.ensures.value) (c.in_ok-active.ensures.sums even)
 
 pub for_group-requires-clause-ledger : goal.for_group-requires-clause-ledger
-for_group-requires-clause-ledger g c =
+for_group-requires-clause-ledger c =
     let b0 = c.args.self.now in
     let rest = c.begin_group.ensures.rest in
     let settings = ap (λ (x : Coder). x.settings) rest in
@@ -35,35 +35,36 @@ for_group-requires-clause-ledger g c =
     let going = c.requires.going in
     subst (λ (s : Settings). IsBegunFor s (handed c.args.group) c.begin_group.new.self.ledger) (sym settings)
     (begun_for b0.settings (handed c.args.group) b0.ledger c.begin_group.new.self.ledger going.settings going.steady.begun
-    (omega (arith, going.removals, c.requires.few.pictures)) c.requires.group.pictures ledger)
+    (omega (arith, going.removals, c.requires.few.pictures)) c.requires.group.group.pictures ledger)
 
-pub invariant_of-result : goal.invariant_of-result
-invariant_of-result g c =
+pub returns-clause-ready : goal.returns-clause-ready
+returns-clause-ready c =
     let b0 = c.args.self.now in
     let rest = c.begin_group.ensures.rest in
     let settings = ap (λ (x : Coder). x.settings) rest in
     let pics = c.deref-2.ensures.value ∙ c.in_ok-pictures.ensures.value ∙ c.deref.ensures.value in
     let sums = c.deref-3.ensures.value ∙ c.in_ok-active.ensures.pictures in
     let ledger = begun_is b0.settings b0.ledger c.begin_group.new.self.ledger c.args.group.frames.items c.args.group.before c.deref-2.result.now c.args.group.pictures.items c.deref-3.result.now pics sums c.in_ok-times.ensures.begun in
-    let is = c.run_jobs-done.ensures ∙ c.in_ok-book.ensures.value in
-    done_is c.run_jobs-done.result c.begin_group.new.self.settings c.args.group.frames.items c.args.group.pictures.items c.take-before.result c.begin_group.new.self.ledger
-    c.in_ok-pictures.pictures.items c.len-frames.result c.rows_of-rows.result c.in_ok-times.times.items is
-    (subst IsBook (sym c.run_jobs-done.ensures) c.in_ok-book.ensures.book)
-    (subst (λ (b : Book). jobs_of b ≡ length b.pictures * (rows b + 1)) (sym c.run_jobs-done.ensures) c.in_ok-book.ensures.jobs)
-    (c.in_ok-pictures.ensures.value ∙ c.deref.ensures.value)
-    (omega (arith, c.len-frames.ensures, c.args.group.frames.ok.0))
-    (c.rows_of-rows.ensures.value ∙ ap (λ (s : Settings). rows_by s.scan s.height) (sym settings))
-    (c.in_ok-times.ensures.times ∙ ap (intervals_of b0.settings c.args.group.before) pics ∙ sym (ap (λ (l : Entries). l.intervals) ledger))
-    c.requires.early
+    record {
+      told = done_is c.in_ok-book.book c.begin_group.new.self.settings c.args.group.frames.items c.args.group.pictures.items c.take-before.result c.begin_group.new.self.ledger
+          c.in_ok-pictures.pictures.items c.len-frames.result c.rows_of-rows.result c.in_ok-times.times.items c.in_ok-book.ensures.value
+          c.in_ok-book.ensures.book c.in_ok-book.ensures.jobs
+          (c.in_ok-pictures.ensures.value ∙ c.deref.ensures.value)
+          (omega (arith, c.len-frames.ensures, c.args.group.frames.ok.0))
+          (c.rows_of-rows.ensures.value ∙ ap (λ (s : Settings). rows_by s.scan s.height) (sym settings))
+          (c.in_ok-times.ensures.times ∙ ap (intervals_of b0.settings c.args.group.before) pics ∙ sym (ap (λ (l : Entries). l.intervals) ledger))
+          c.requires.group.early;
+      bench = c.in_ok-bench.ensures.bench;
+    }
 
 pub returns-clause-value : goal.returns-clause-value
-returns-clause-value g c =
+returns-clause-value c =
     let b0 = c.args.self.now in
     let rest = c.begin_group.ensures.rest in
     let settings = ap (λ (x : Coder). x.settings) rest in
     let pics = c.deref-2.ensures.value ∙ c.in_ok-pictures.ensures.value ∙ c.deref.ensures.value in
     let sums = c.deref-3.ensures.value ∙ c.in_ok-active.ensures.pictures in
     let ledger = begun_is b0.settings b0.ledger c.begin_group.new.self.ledger c.args.group.frames.items c.args.group.before c.deref-2.result.now c.args.group.pictures.items c.deref-3.result.now pics sums c.in_ok-times.ensures.begun in
-    c.run_jobs-done.ensures ∙ c.in_ok-book.ensures.value
+    c.in_ok-book.ensures.value
     ∙ same_book c.begin_group.new.self.settings b0.settings c.args.group.frames.items c.args.group.pictures.items c.take-before.result b0.before c.begin_group.new.self.ledger _
     settings (c.take-before.ensures.value ∙ ap (λ (x : Coder). x.before) rest) ledger
