@@ -1,6 +1,6 @@
 -- A frame that was read, and why one wasn't; and the group that is due.
-use Rattle.std.proofs.Common.{◌≡◌, ℕ, ◌+◌, ◌*◌, ◌<◌, ◌≤◌, inl, true, List, length, take, drop, Option, ap, ◌∙◌, arith}
-use Rattle.std.specs.Prelude.{All, is_some}
+use Rattle.std.proofs.Common.{◌≡◌, ℕ, ◌+◌, ◌*◌, ◌<◌, ◌≤◌, inl, true, List, length, take, drop, Option, Some, None, Result, Ok, Err, refl, ap, ◌∙◌, arith}
+use Rattle.std.specs.Prelude.{All, is_some, IsTrue, IsSome, IfSome, OnSome, IfOk, ◌↔◌}
 use Rattle.std.proofs.Math.Nat.{mul-pos}
 use Rattle.std.proofs.lemmas.List.{take-append-drop, length-append}
 use Rattle.m2v_port.specs.Ends.{Change}
@@ -12,11 +12,13 @@ use Rattle.m2v_set.specs.declared.settings.Settings.{Settings}
 use Rattle.m2v_set.specs.Numbers.{dims_of}
 use Rattle.m2v_set.specs.Rules.{Passes}
 use Rattle.m2v_order.specs.declared.jobs.PictureJob.{PictureJob}
+use Rattle.m2v_order.specs.declared.jobs.GroupJobs.{GroupJobs}
+use Rattle.m2v_order.specs.Whole.{IsGroupOf, handed}
 use Rattle.m2v_order.specs.Groups.{Queue, Group, first_of, is_due, group_size, group_of, anchor_before, after_group, IsSoundQueue}
 use Rattle.m2v_order.proofs.Queues.{grouped, due_is, turn_is}
 use Rattle.m2v_encode.specs.declared.answer.EncodeError.{EncodeError}
 use Rattle.m2v_encode.specs.declared.answer.EncodeError.TheVariants.{Read, Write, ShortFrame, NoFrames, TooManyFrames, Memory}
-use Rattle.m2v_encode.specs.Steps.{ReadStops, FrameStops}
+use Rattle.m2v_encode.specs.Steps.{ReadStops, FrameStops, GroupOut}
 use Rattle.m2v_law_shown.proofs.m2v_enc_stream.Queues.{before_some}
 
 pub some_bytes : (d : Dims) → IsSize d → 0 < frame_bytes d
@@ -34,7 +36,7 @@ frame_lost s left Memory h = inl h
 
 -- ---- the group that is due
 
-pub same_group : (g : Group Samples) (h : Group Samples) → g.frames ≡ h.frames → g.pictures ≡ h.pictures → g.before ≡ h.before → g ≡ h
+same_group : (g : Group Samples) (h : Group Samples) → g.frames ≡ h.frames → g.pictures ≡ h.pictures → g.before ≡ h.before → g ≡ h
 same_group g h e f k =
     let a : Group Samples = record { frames = h.frames; pictures = g.pictures; before = g.before } in
     ap (λ (x : List Samples). record { frames = x; pictures = g.pictures; before = g.before }) e
@@ -49,11 +51,28 @@ frames_few : (q : Queue Samples) → length (group_of q).frames ≤ length q.fra
 unfolding group_of
 frames_few q = omega (arith, ap length (take-append-drop (group_size q) q.frames), length-append (take (group_size q) q.frames) (drop (group_size q) q.frames))
 
-pub early_is : (q : Queue Samples) (jobs : List PictureJob) (frames : List Samples) → IsSoundQueue q → q.pushed < 1000000 → frames ≡ (group_of q).frames
+early_is : (q : Queue Samples) (jobs : List PictureJob) (frames : List Samples) → IsSoundQueue q → q.pushed < 1000000 → frames ≡ (group_of q).frames
     → All (λ (j : PictureJob). (j.display ≡ first_of q + j.frame) × (j.frame < length frames)) jobs → All (λ (j : PictureJob). j.display < 1000000) jobs
 early_is q jobs frames sound pushed same places = λ k d lt.
     let at = places k d lt in
     omega (arith, at.0, at.1, ap length same, frames_few q, sound.room, pushed)
+
+-- what a queue handed out
+pub due_out : {E : Type 0} (q last : Queue Samples) (result : Result (Option GroupJobs) E) → IsSoundQueue q → q.pushed < 1000000
+    → IfOk result (λ o. IsSome o ↔ IsTrue (is_due q)) → IfOk result (λ o. IfSome o (λ (g : GroupJobs). g.frames.items ≡ (group_of q).frames))
+    → IfOk result (λ o. IfSome o (λ (g : GroupJobs). g.pictures.items ≡ (group_of q).pictures)) → IfOk result (λ o. IfSome o (λ (g : GroupJobs). g.before ≡ (group_of q).before))
+    → IfOk result (λ o. IfSome o (λ (g : GroupJobs). IsGroupOf q.settings (handed g)))
+    → IfOk result (λ o. IfSome o (λ (g : GroupJobs). All (λ (j : PictureJob). (j.display ≡ first_of q + j.frame) × (j.frame < length g.frames.items)) g.pictures.items))
+    → IfOk result (λ o. IfSome o (λ (g : GroupJobs). All (λ (f : Samples). f.dims ≡ dims_of q.settings) g.frames.items))
+    → IfOk result (λ o. OnSome o (last ≡ after_group q)) → IfOk result (λ o. IfSome o (GroupOut q.settings q last))
+due_out q last (Ok (Some g)) sound few due frames pictures before group places sizes after = record {
+  due = due.0 refl;
+  is = same_group (handed g) (group_of q) frames pictures before;
+  after = after;
+  group = record { group = group; sizes = sizes; early = early_is q g.pictures.items g.frames.items sound few frames places };
+}
+due_out q last (Ok None) sound few due frames pictures before group places sizes after = tt
+due_out q last (Err e) sound few due frames pictures before group places sizes after = tt
 
 pub after_some : (q r : Queue Samples) → Passes q.settings → IsSoundQueue q → is_due q ≡ true → r ≡ after_group q → is_some (anchor_before (first_of r)) ≡ true
 after_some q r passes sound is same =

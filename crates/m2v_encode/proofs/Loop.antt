@@ -1,6 +1,6 @@
 -- The main loop: where it begins, and the queue from frame to frame.
-use Rattle.std.proofs.Common.{◌≡◌, ℕ, ◌+◌, ◌-◌, ◌*◌, ◌^◌, ◌<◌, ◌≤◌, inl, inr, Bool, true, false, List, length, Option, Some, None, refl, sym, subst, ap, ◌∙◌, arith}
-use Rattle.std.specs.Prelude.{IfSome, is_some, nat_lt, ◌||◌, vec_len}
+use Rattle.std.proofs.Common.{◌≡◌, ℕ, ◌+◌, ◌-◌, ◌*◌, ◌^◌, ◌<◌, ◌≤◌, inl, inr, Bool, true, false, List, length, Option, Some, None, Ok, Err, refl, sym, subst, ap, ◌∙◌, arith}
+use Rattle.std.specs.Prelude.{IfSome, IfNone, is_some, nat_lt, ◌||◌, vec_len}
 use Rattle.std.proofs.lemmas.Bool.{cases_lt, lt-ltb, and_from}
 use Rattle.std.proofs.Math.Bool.{or-true}
 use Rattle.m2v_port.specs.Ends.{Change, change}
@@ -20,14 +20,15 @@ use Rattle.m2v_rate.proofs.Places.{fresh_place}
 use Rattle.m2v_rate.proofs.Streams.{fresh_ledger}
 use Rattle.m2v_encode.specs.declared.answer.Summary.{Summary}
 use Rattle.m2v_encode.specs.declared.answer.EncodeError.{EncodeError}
+use Rattle.m2v_encode.specs.declared.answer.EncodeError.TheVariants.{Memory}
 use Rattle.m2v_encode.specs.declared.group.Coder.{Coder}
 use Rattle.m2v_encode.specs.declared.intake.Intake.{Intake}
 use Rattle.m2v_encode.specs.Answers.{most_frames, Stops}
 use Rattle.m2v_encode.specs.Groups.{IsPlace}
-use Rattle.m2v_encode.specs.Steps.{FrameRead, GoesOn, CanRead, GroupOut, HandsOut, Comes, BesideStops, GroupCoded, GroupStops, SoFar, book_by}
+use Rattle.m2v_encode.specs.Steps.{FrameRead, NoneRead, FrameStops, GoesOn, CanRead, GroupOut, HandsOut, ReadsOn, ReadsNext, Comes, BesideStops, GroupCoded, GroupStops, SoFar, book_by}
 use Rattle.m2v_encode.proofs.Due.{before_is, after_some}
 use Rattle.m2v_encode.proofs.Ends.{none_false}
-use Rattle.m2v_encode.proofs.Readings.{reads_count, reads_first}
+use Rattle.m2v_encode.proofs.Readings.{reads_end, reads_on, reads_frame, reads_count, reads_first}
 use Rattle.m2v_encode.proofs.Progress.{so_far_reads, so_far_group, reading_stopped, group_stopped}
 
 -- ---- the start
@@ -93,7 +94,7 @@ sound_read s q p left passes e sound going read =
     subst IsSoundQueue (sym read.pushed) (sound_push q (pad (dims_of s) read.frame) (grouped q.settings (subst Passes (sym e) passes)) sound going)
 
 -- a frame more waits, and no group is due
-pub can_frame : (t u : Intake) (left : Change) → Passes t.settings → CanRead t → t.count < most_frames → FrameRead t.settings t.queue u.queue left
+can_frame : (t u : Intake) (left : Change) → Passes t.settings → CanRead t → t.count < most_frames → FrameRead t.settings t.queue u.queue left
     → u.count ≡ t.count + 1 → u.settings ≡ t.settings → vec_len u.raw ≡ frame_bytes (dims_of u.settings) → is_due u.queue ≡ false → CanRead u
 can_frame t u left passes can few read count same raw rest = record {
   raw = raw;
@@ -106,7 +107,7 @@ can_frame t u left passes can few read count same raw rest = record {
 }
 
 -- a group was due with it, and was handed out
-pub can_group : (t u v : Intake) (g : GroupJobs) (left : Change) → Passes t.settings → CanRead t → t.count < most_frames → FrameRead t.settings t.queue u.queue left
+can_group : (t u v : Intake) (g : GroupJobs) (left : Change) → Passes t.settings → CanRead t → t.count < most_frames → FrameRead t.settings t.queue u.queue left
     → u.count ≡ t.count + 1 → u.settings ≡ t.settings → vec_len u.raw ≡ frame_bytes (dims_of u.settings) → GroupOut u.queue.settings u.queue v.queue g
     → v.count ≡ u.count → v.settings ≡ u.settings → vec_len v.raw ≡ vec_len u.raw → CanRead v
 can_group t u v g left passes can few read count same raw out kept settings buffer =
@@ -129,6 +130,125 @@ can_group t u v g left passes can few read count same raw out kept settings buff
           (subst (λ (x : Queue Samples). is_due (after_group x) ≡ true) read.pushed again));
     }
 
+
+-- the queue is as it was
+can_same : (t u : Intake) → CanRead t → u.queue ≡ t.queue → u.count ≡ t.count → u.settings ≡ t.settings → vec_len u.raw ≡ frame_bytes (dims_of u.settings) → CanRead u
+can_same t u can queue count same raw = record {
+  raw = raw;
+  settings = ap (λ (q : Queue Samples). q.settings) queue ∙ can.settings ∙ sym same;
+  going = ap (λ (q : Queue Samples). q.ended) queue ∙ can.going;
+  count = omega (arith, ap (λ (q : Queue Samples). q.pushed) queue, can.count, count);
+  most = omega (arith, count, can.most);
+  sound = subst IsSoundQueue (sym queue) can.sound;
+  rest = ap (λ (q : Queue Samples). is_due q) queue ∙ can.rest;
+}
+
+-- ---- up to the next group
+
+-- The frames behind an intake's old state were read up to t, one more with u, and v is what stands at the end.
+module _ {S : Type 0} (left : S → Option (List ℕ)) (faults : S → ℕ) where
+  -- the input has ended
+  pub next_ended : (old t u : Intake) (i0 i1 i2 : S) → ReadsOn left faults old.settings old.queue t.queue i0 i1 → CanRead t → t.settings ≡ old.settings
+      → NoneRead t.queue u.queue (change left faults i1 i2) → faults i1 ≤ faults i2 → u.count ≡ t.count → u.settings ≡ t.settings → vec_len u.raw ≡ frame_bytes (dims_of u.settings)
+      → ReadsNext left faults old u i0 i2 (Ok None)
+  unfolding HandsOut
+  next_ended old t u i0 i1 i2 reads can settings none rises count same raw = record {
+    ok = record {
+      queue = t.queue;
+      reads = reads_on left faults old.settings old.queue t.queue t.queue i0 i1 i2 reads (reads_end left faults old.settings t.queue i1 i2 can.going rises none.moved);
+      most = omega (arith, can.count, can.most);
+      sound = can.sound;
+      out = record { rest = can.rest; same = none.same; end = λ few. none.end };
+      more = λ some. absurd (true_false true refl (sym some));
+    };
+    ready = can_same t u can none.same count same raw;
+    err = tt;
+    settings = same ∙ settings;
+    rises = omega (arith, reads.rises, rises);
+  }
+
+  -- there were the most frames
+  pub next_full : (old t : Intake) (i0 i1 : S) → ReadsOn left faults old.settings old.queue t.queue i0 i1 → CanRead t → t.settings ≡ old.settings → most_frames ≤ t.count
+      → ReadsNext left faults old t i0 i1 (Ok None)
+  unfolding HandsOut
+  next_full old t i0 i1 reads can settings all = record {
+    ok = record {
+      queue = t.queue;
+      reads = reads;
+      most = omega (arith, can.count, can.most);
+      sound = can.sound;
+      out = record { rest = can.rest; same = refl; end = λ few. absurd (omega (arith, few, can.count, all)) };
+      more = λ some. absurd (true_false true refl (sym some));
+    };
+    ready = can;
+    err = tt;
+    settings = settings;
+    rises = reads.rises;
+  }
+
+  -- a group was due, and there was no room to hand it out
+  pub next_lost : (old t u v : Intake) (i0 i1 i2 : S) → ReadsOn left faults old.settings old.queue t.queue i0 i1 → CanRead t → t.settings ≡ old.settings → t.count < most_frames
+      → FrameRead t.settings t.queue u.queue (change left faults i1 i2) → faults i1 ≤ faults i2 → v.settings ≡ old.settings → ReadsNext left faults old v i0 i2 (Err Memory)
+  unfolding FrameStops
+  next_lost old t u v i0 i1 i2 reads can settings few read rises same = record {
+    ok = tt;
+    ready = tt;
+    err = record {
+      queue = t.queue;
+      between = i1;
+      reads = reads;
+      sound = can.sound;
+      rest = can.rest;
+      fewer = omega (arith, few, can.count);
+      stops = inr (record { frame = read.frame; whole = subst (λ (s : Settings). length read.frame ≡ frame_bytes (dims_of s)) settings read.whole; moved = read.moved });
+    };
+    settings = same;
+    rises = omega (arith, reads.rises, rises);
+  }
+
+  reads_more : (old t u : Intake) (i0 i1 i2 : S) → ReadsOn left faults old.settings old.queue t.queue i0 i1 → CanRead t → t.settings ≡ old.settings
+      → FrameRead t.settings t.queue u.queue (change left faults i1 i2) → faults i1 ≤ faults i2 → ReadsOn left faults old.settings old.queue u.queue i0 i2
+  reads_more old t u i0 i1 i2 reads can settings read rises =
+      reads_on left faults old.settings old.queue t.queue u.queue i0 i1 i2 reads
+      (reads_frame left faults old.settings t.queue u.queue i1 i2 can.going rises (subst (λ (s : Settings). FrameRead s t.queue u.queue (change left faults i1 i2)) settings read))
+
+  -- a group was due, and was handed out
+  pub next_due : (old t u v : Intake) (next : Option GroupJobs) (i0 i1 i2 : S) → Passes old.settings → ReadsOn left faults old.settings old.queue t.queue i0 i1 → CanRead t → t.settings ≡ old.settings
+      → t.count < most_frames → FrameRead t.settings t.queue u.queue (change left faults i1 i2) → faults i1 ≤ faults i2
+      → u.count ≡ t.count + 1 → u.settings ≡ t.settings → vec_len u.raw ≡ frame_bytes (dims_of u.settings) → IfSome next (GroupOut u.queue.settings u.queue v.queue)
+      → v.count ≡ u.count → v.settings ≡ u.settings → vec_len v.raw ≡ vec_len u.raw → is_some next ≡ true → ReadsNext left faults old v i0 i2 (Ok next)
+  unfolding HandsOut
+  next_due old t u v (Some g) i0 i1 i2 passes reads can settings few read rises count same raw out kept alike buffer some =
+      let pass : Passes t.settings = subst Passes (sym settings) passes in
+      let pushed = ap (λ (q : Queue Samples). q.pushed) read.pushed in
+      let is : u.queue.settings ≡ old.settings = ap (λ (q : Queue Samples). q.settings) read.pushed ∙ can.settings ∙ settings in
+      let all = reads_more old t u i0 i1 i2 reads can settings read rises in
+      record {
+        ok = record {
+          queue = u.queue;
+          reads = all;
+          most = omega (arith, pushed, can.count, few);
+          sound = sound_read t.settings t.queue u.queue (change left faults i1 i2) pass can.settings can.sound can.going read;
+          out = subst (λ (s : Settings). GroupOut s u.queue v.queue g) is out;
+          more = λ yes. omega (arith, pushed, (reads_count left faults old.settings old.queue t.queue i0 i1 reads).0);
+        };
+        ready = can_group t u v g (change left faults i1 i2) pass can few read count same raw out kept alike buffer;
+        err = tt;
+        settings = alike ∙ same ∙ settings;
+        rises = all.rises;
+      }
+  next_due old t u v None i0 i1 i2 passes reads can settings few read rises count same raw out kept alike buffer some = absurd (true_false true refl (sym some))
+
+  -- no group was due
+  pub next_on : (old t u v : Intake) (next : Option GroupJobs) (i0 i1 i2 : S) → Passes old.settings → ReadsOn left faults old.settings old.queue t.queue i0 i1 → CanRead t → t.settings ≡ old.settings
+      → t.count < most_frames → FrameRead t.settings t.queue u.queue (change left faults i1 i2) → faults i1 ≤ faults i2
+      → u.count ≡ t.count + 1 → u.settings ≡ t.settings → vec_len u.raw ≡ frame_bytes (dims_of u.settings) → IfNone next ((is_due u.queue ≡ false) × (v ≡ u)) → is_some next ≡ false
+      → ReadsOn left faults old.settings old.queue v.queue i0 i2 × CanRead v
+  next_on old t u v None i0 i1 i2 passes reads can settings few read rises count same raw out none = (
+    subst (λ (x : Intake). ReadsOn left faults old.settings old.queue x.queue i0 i2) (sym out.1) (reads_more old t u i0 i1 i2 reads can settings read rises),
+    subst CanRead (sym out.1) (can_frame t u (change left faults i1 i2) (subst Passes (sym settings) passes) can few read count same raw out.0),
+  )
+  next_on old t u v (Some g) i0 i1 i2 passes reads can settings few read rises count same raw out none = absurd (true_false true refl none)
 
 -- ---- from group to group
 
@@ -167,6 +287,16 @@ coded_few s q c d held recon passes e sound is coded before =
     let few = (group_is q pass sound is).pictures in
     omega (arith, coded.pictures, few, turn.left, turn.past, turn.low, sound.room, before)
 
+-- where no group will be due before the end
+pub waits_last : (s : Settings) (c : Coder) (last : Queue Samples) (left held recon : Change) → (w : Waits s c last None left held recon)
+    → SoFar s c last left held recon × GoesOn c (is_some (anchor_before (first_of last))) × (c.total.pictures ≤ 126 * most_frames)
+unfolding HandsOut
+waits_last s c last left held recon w = (
+  subst (λ (q : Queue Samples). SoFar s c q left held recon) (sym w.out.same) w.far,
+  subst (λ (q : Queue Samples). GoesOn c (is_some (anchor_before (first_of q)))) (sym w.out.same) w.goes,
+  omega (arith, w.pictures, w.most),
+)
+
 module _ {S K N : Type 0} (left : S → Option (List ℕ)) (input_faults : S → ℕ) (held : K → Option (List ℕ)) (output_faults : K → ℕ)
     (kept : N → Option (List ℕ)) (recon_faults : N → ℕ) where
   abbrev input : S → S → Change
@@ -200,6 +330,7 @@ module _ {S K N : Type 0} (left : S → Option (List ℕ)) (input_faults : S →
   behind_group : (s : Settings) (c d : Coder) (last : Queue Samples) (g : GroupJobs) (i0 i1 : S) (o0 o1 o2 : K) (r0 r1 r2 : N) → Passes s
       → (w : Waits s c last (Some g) (input i0 i1) (output o0 o1) (recon r0 r1)) → GroupCoded c d (book_by c (handed g)) false (output o1 o2) (recon r1 r2)
       → GroupCoded c d (book_by c (group_of w.queue)) false (output o1 o2) (recon r1 r2) × SoFar s d last (input i0 i1) (output o0 o2) (recon r0 r2)
+  unfolding HandsOut
   behind_group s c d last g i0 i1 o0 o1 o2 r0 r1 r2 passes w coded =
       let same = subst (λ (x : Group Samples). GroupCoded c d (book_by c x) false (output o1 o2) (recon r1 r2)) w.out.is coded in
       (same, so_far_group left input_faults held output_faults kept recon_faults s c d w.queue last i0 i1 o0 o1 o2 r0 r1 r2 passes w.sound w.out.due w.far w.out.after same)
@@ -209,6 +340,7 @@ module _ {S K N : Type 0} (left : S → Option (List ℕ)) (input_faults : S →
       → Waits s c last (Some g) (input i0 i1) (output o0 o1) (recon r0 r1) → IsSoundQueue last → GroupCoded c d (book_by c (handed g)) false (output o1 o2) (recon r1 r2)
       → GoesOn d true → d.total.bytes ≤ 2 ^ 21 * d.total.pictures → d.total.stuffing ≤ d.total.bytes → Comes left input_faults s last after i1 i2 next
       → Waits s d after next (input i0 i2) (output o0 o2) (recon r0 r2)
+  unfolding HandsOut
   waits_group s c d last after g next i0 i1 i2 o0 o1 o2 r0 r1 r2 passes w sound coded goes bytes stuffing comes =
       let e : w.queue.settings ≡ s = w.far.handed.settings in
       let behind = behind_group s c d last g i0 i1 o0 o1 o2 r0 r1 r2 passes w coded in
@@ -222,18 +354,10 @@ module _ {S K N : Type 0} (left : S → Option (List ℕ)) (input_faults : S →
       → t.settings ≡ s → input_faults i0 ≤ input_faults i1 → output_faults o0 ≤ output_faults o1 → recon_faults r0 ≤ recon_faults r1
       → Waits s c t.queue (Some g) (input i0 i1) (output o0 o1) (recon r0 r1) → BesideStops left input_faults (book_by c (handed g)) c d t i1 i2 (output o1 o2) (recon r1 r2) e
       → Stops s (input i0 i2) (output o0 o2) (recon r0 r2) e
+  unfolding HandsOut
   waits_stopped s c d t g i0 i1 i2 o0 o1 o2 r0 r1 r2 e passes size same fi fo fr w (inl h) =
       group_stopped left input_faults held output_faults kept recon_faults s c w.queue t.queue i0 i1 i2 o0 o1 o2 r0 r1 r2 e passes w.sound w.out.due w.out.after fo fr w.far (rw same at h.1)
       (subst (λ (x : Group Samples). GroupStops (book_by c x) false (8 * c.total.bytes) (output o1 o2) (recon r1 r2) e) w.out.is h.0)
   waits_stopped s c d t g i0 i1 i2 o0 o1 o2 r0 r1 r2 e passes size same fi fo fr w (inr h) =
       let behind = behind_group s c d t.queue g i0 i1 o0 o1 o2 r0 r1 r2 passes w h.0 in
       reading_stopped left input_faults held output_faults kept recon_faults s d t.queue i0 i1 i2 o0 o2 r0 r2 e passes size fi behind.1 (rw same at h.1)
-
--- where no group will be due before the end
-pub waits_last : (s : Settings) (c : Coder) (last : Queue Samples) (left held recon : Change) → (w : Waits s c last None left held recon)
-    → SoFar s c last left held recon × GoesOn c (is_some (anchor_before (first_of last))) × (c.total.pictures ≤ 126 * most_frames)
-waits_last s c last left held recon w = (
-  subst (λ (q : Queue Samples). SoFar s c q left held recon) (sym w.out.same) w.far,
-  subst (λ (q : Queue Samples). GoesOn c (is_some (anchor_before (first_of q)))) (sym w.out.same) w.goes,
-  omega (arith, w.pictures, w.most),
-)

@@ -39,14 +39,18 @@ moved_all l0 l1 l2 xs ys first second = subst (λ (b : List ℕ). Moves l0 b l2)
 -- ---- frame after frame
 
 module _ {S : Type 0} (left : S → Option (List ℕ)) (faults : S → ℕ) where
-  pub reads_none : (s : Settings) (q : Queue Samples) (i : S) → q.ended ≡ false → ReadsOn left faults s q q i i
-  reads_none s q i going = record {
+  -- no frame was read
+  pub reads_end : (s : Settings) (q : Queue Samples) (i0 i1 : S) → q.ended ≡ false → faults i0 ≤ faults i1 → Moves (left i0) [] (left i1) → ReadsOn left faults s q q i0 i1
+  reads_end s q i0 i1 going rises moved = record {
     frames = [];
     whole = All-nil (λ (x : List ℕ). length x ≡ frame_bytes (dims_of s));
-    moved = moves_nothing (left i);
+    moved = moved;
     pushed = sym (no_more q false ∙ going_is q going);
-    rises = omega arith;
+    rises = rises;
   }
+
+  pub reads_none : (s : Settings) (q : Queue Samples) (i : S) → q.ended ≡ false → ReadsOn left faults s q q i i
+  reads_none s q i going = reads_end s q i i going (omega arith) (moves_nothing (left i))
 
   pub reads_on : (s : Settings) (q p r : Queue Samples) (i0 i1 i2 : S) → ReadsOn left faults s q p i0 i1 → ReadsOn left faults s p r i1 i2 → ReadsOn left faults s q r i0 i2
   reads_on s q p r i0 i1 i2 first second =

@@ -42,6 +42,26 @@ impl Intake {
         })
     }
 
+    /// Reads bytes of the next frame until they are all there or the input ends, and says how many there are.
+    fn read<S: Source>(&mut self, input: &mut S) -> Result<usize, EncodeError>
+        requires raw { vec_len self.old.raw ≡ frame_bytes (dims_of self.old.settings) }
+        ensures within { IfOk result (λ n. n ≤ frame_bytes (dims_of self.old.settings)) }
+        ensures moved { IfOk result (λ n. Moves (S.left input.old) (take n self.new.raw.items)
+            (S.left input.new)) }
+        ensures bytes { IfOk result (λ n. All (λ b. b < 256) self.new.raw.items) }
+        ensures end { IfOk result (λ n. n < frame_bytes (dims_of self.old.settings)
+            → IsAtEnd (S.left input.new)) }
+        ensures err { IfErr result (ReadStops (frame_bytes (dims_of self.old.settings))
+            (change S.left S.faults input.old input.new)) }
+        ensures raw { vec_len self.new.raw ≡ frame_bytes (dims_of self.new.settings) }
+        ensures rest { self.new ≡ record self.old { raw = self.new.raw } }
+        ensures input { S.faults input.old ≤ S.faults input.new }
+        ensures behind { S.behind input.old ≤ S.behind input.new }
+        ensures lenders { S.lenders input.new ≡ S.lenders input.old }
+    {
+        read_bytes(input, &mut self.raw)
+    }
+
     /// Puts the frame that was read behind those that wait.
     fn admit(&mut self, alloc: Global) -> Result<(), Memory>
         requires ready { CanRead self.old }
@@ -81,7 +101,7 @@ impl Intake {
     {
         // a frame has bytes
         let _size = self.settings.dims();
-        let read = read_bytes(input, &mut self.raw)?;
+        let read = self.read(input)?;
         if read == 0 {
             return Ok(false);
         }
