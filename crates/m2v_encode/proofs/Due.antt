@@ -58,6 +58,17 @@ early_is q jobs frames sound pushed same places = λ k d lt.
     omega (arith, at.0, at.1, ap length same, frames_few q, sound.room, pushed)
 
 -- what a queue handed out
+pub group_out : (q last : Queue Samples) (g : GroupJobs) → IsSoundQueue q → q.pushed < 1000000 → is_due q ≡ true
+    → g.frames.items ≡ (group_of q).frames → g.pictures.items ≡ (group_of q).pictures → g.before ≡ (group_of q).before → IsGroupOf q.settings (handed g)
+    → All (λ (j : PictureJob). (j.display ≡ first_of q + j.frame) × (j.frame < length g.frames.items)) g.pictures.items
+    → All (λ (f : Samples). f.dims ≡ dims_of q.settings) g.frames.items → last ≡ after_group q → GroupOut q.settings q last g
+group_out q last g sound few due frames pictures before group places sizes after = record {
+  due = due;
+  is = same_group (handed g) (group_of q) frames pictures before;
+  after = after;
+  group = record { group = group; sizes = sizes; early = early_is q g.pictures.items g.frames.items sound few frames places };
+}
+
 pub due_out : {E : Type 0} (q last : Queue Samples) (result : Result (Option GroupJobs) E) → IsSoundQueue q → q.pushed < 1000000
     → IfOk result (λ o. IsSome o ↔ IsTrue (is_due q)) → IfOk result (λ o. IfSome o (λ (g : GroupJobs). g.frames.items ≡ (group_of q).frames))
     → IfOk result (λ o. IfSome o (λ (g : GroupJobs). g.pictures.items ≡ (group_of q).pictures)) → IfOk result (λ o. IfSome o (λ (g : GroupJobs). g.before ≡ (group_of q).before))
@@ -65,12 +76,8 @@ pub due_out : {E : Type 0} (q last : Queue Samples) (result : Result (Option Gro
     → IfOk result (λ o. IfSome o (λ (g : GroupJobs). All (λ (j : PictureJob). (j.display ≡ first_of q + j.frame) × (j.frame < length g.frames.items)) g.pictures.items))
     → IfOk result (λ o. IfSome o (λ (g : GroupJobs). All (λ (f : Samples). f.dims ≡ dims_of q.settings) g.frames.items))
     → IfOk result (λ o. OnSome o (last ≡ after_group q)) → IfOk result (λ o. IfSome o (GroupOut q.settings q last))
-due_out q last (Ok (Some g)) sound few due frames pictures before group places sizes after = record {
-  due = due.0 refl;
-  is = same_group (handed g) (group_of q) frames pictures before;
-  after = after;
-  group = record { group = group; sizes = sizes; early = early_is q g.pictures.items g.frames.items sound few frames places };
-}
+due_out q last (Ok (Some g)) sound few due frames pictures before group places sizes after =
+    group_out q last g sound few (due.0 refl) frames pictures before group places sizes after
 due_out q last (Ok None) sound few due frames pictures before group places sizes after = tt
 due_out q last (Err e) sound few due frames pictures before group places sizes after = tt
 

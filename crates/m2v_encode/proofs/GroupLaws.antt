@@ -1,6 +1,6 @@
 -- A group that was coded, and where coding it stops.
-use Rattle.std.proofs.Common.{◌≡◌, ℕ, ◌+◌, ◌*◌, inl, inr, Bool, true, List, length, Option, sym, ap, subst, ◌∙◌, arith}
-use Rattle.std.specs.Prelude.{is_some, IfSome}
+use Rattle.std.proofs.Common.{◌≡◌, ℕ, ◌+◌, ◌*◌, inl, inr, Bool, true, List, length, Option, Result, Ok, Err, sym, ap, subst, ◌∙◌, arith}
+use Rattle.std.specs.Prelude.{is_some, IfSome, OnOk}
 use Rattle.m2v_bits.specs.Bits.{packed}
 use Rattle.m2v_port.specs.Ends.{Change, change}
 use Rattle.m2v_port.specs.Port.{Grows}
@@ -95,6 +95,11 @@ stops_since b x ends at from held recon e is same h =
     subst (λ (y : Book). GroupStops y ends at held recon e) is (subst (λ (n : ℕ). GroupStops x ends n held recon e) same h)
 
 -- ---- what stands
+
+-- a fact that holds after success holds
+pub on_ok : {T E P : Type 0} (result : Result T E) → P → OnOk result P
+on_ok (Ok v) holds = holds
+on_ok (Err e) holds = tt
 
 first_here : (c : Coder) (g : Group Samples) → IsPlace c.settings (account_at c.ledger (length c.ledger.kinds)) (8 * c.total.bytes)
     → IsPlace (book_by c g).settings (account_at (whole_ledger (book_by c g)) 0) (8 * c.total.bytes)
