@@ -4,6 +4,7 @@ use Rattle.std.specs.Prelude.{IfSome, IfNone, is_some, nat_lt, ◌||◌, vec_len
 use Rattle.std.proofs.lemmas.Bool.{cases_lt, lt-ltb, and_from}
 use Rattle.std.proofs.Math.Bool.{or-true}
 use Rattle.m2v_port.specs.Ends.{Change, change}
+use Rattle.m2v_port.specs.Port.{IsAtEnd}
 use Rattle.m2v_plane.specs.Raw.{frame_bytes, pad}
 use Rattle.m2v_plane.specs.Samples.{Samples}
 use Rattle.m2v_set.specs.declared.settings.Settings.{Settings}
@@ -25,7 +26,7 @@ use Rattle.m2v_encode.specs.declared.group.Coder.{Coder}
 use Rattle.m2v_encode.specs.declared.intake.Intake.{Intake}
 use Rattle.m2v_encode.specs.Answers.{most_frames, Stops}
 use Rattle.m2v_encode.specs.Groups.{IsPlace}
-use Rattle.m2v_encode.specs.Steps.{FrameRead, NoneRead, FrameStops, GoesOn, CanRead, GroupOut, HandsOut, ReadsOn, ReadsNext, Comes, BesideStops, GroupCoded, GroupStops, SoFar, book_by}
+use Rattle.m2v_encode.specs.Steps.{FrameRead, NoneRead, FrameStops, GoesOn, CanCode, CanRead, GroupOut, HandsOut, ReadsOn, ReadsNext, Comes, BesideStops, GroupCoded, GroupStops, SoFar, book_by}
 use Rattle.m2v_encode.proofs.Due.{before_is, after_some}
 use Rattle.m2v_encode.proofs.Ends.{none_false}
 use Rattle.m2v_encode.proofs.Readings.{reads_end, reads_on, reads_frame, reads_count, reads_first}
@@ -273,10 +274,6 @@ pub record Waits (s : Settings) (c : Coder) (last : Queue Samples) (next : Optio
   pub bytes : c.total.bytes ≤ 2 ^ 21 * c.total.pictures
   pub stuffing : c.total.stuffing ≤ c.total.bytes
 
-pub waits_before : (s : Settings) (q last : Queue Samples) (g : GroupJobs) (c : Coder) → GroupOut s q last g → GoesOn c (is_some (anchor_before (first_of q))) → GoesOn c (is_some g.before)
-waits_before s q last g c out goes =
-    subst (λ (o : Option ℕ). GoesOn c (is_some o)) (sym (before_is q g.before (ap (λ (x : Group Samples). x.before) out.is))) goes
-
 coded_few : (s : Settings) (q : Queue Samples) (c d : Coder) (held recon : Change) → Passes s → q.settings ≡ s → IsSoundQueue q → is_due q ≡ true
     → GroupCoded c d (book_by c (group_of q)) false held recon → c.total.pictures + 126 * length q.frames ≤ 126 * q.pushed
     → d.total.pictures + 126 * length (after_group q).frames ≤ 126 * q.pushed
@@ -289,13 +286,26 @@ coded_few s q c d held recon passes e sound is coded before =
 
 -- where no group will be due before the end
 pub waits_last : (s : Settings) (c : Coder) (last : Queue Samples) (left held recon : Change) → (w : Waits s c last None left held recon)
-    → SoFar s c last left held recon × GoesOn c (is_some (anchor_before (first_of last))) × (c.total.pictures ≤ 126 * most_frames)
+    → SoFar s c last left held recon × GoesOn c (is_some (anchor_before (first_of last))) × (last.pushed < most_frames → IsAtEnd left.new)
 unfolding HandsOut
 waits_last s c last left held recon w = (
   subst (λ (q : Queue Samples). SoFar s c q left held recon) (sym w.out.same) w.far,
   subst (λ (q : Queue Samples). GoesOn c (is_some (anchor_before (first_of q)))) (sym w.out.same) w.goes,
-  omega (arith, w.pictures, w.most),
+  λ few. w.out.end (subst (λ (q : Queue Samples). q.pushed < most_frames) w.out.same few),
 )
+
+pub waits_code : (s : Settings) (c : Coder) (last : Queue Samples) (g : GroupJobs) (left held recon : Change) → (w : Waits s c last (Some g) left held recon)
+    → GoesOn c (is_some g.before) × CanCode s g
+unfolding HandsOut
+waits_code s c last g left held recon w = (
+  subst (λ (o : Option ℕ). GoesOn c (is_some o)) (sym (before_is w.queue g.before (ap (λ (x : Group Samples). x.before) w.out.is))) w.goes,
+  w.out.group,
+)
+
+pub out_pushed : (s : Settings) (q last : Queue Samples) (left : Option (List ℕ)) (next : Option GroupJobs) → HandsOut s q last left next → last.pushed ≡ q.pushed
+unfolding HandsOut
+out_pushed s q last left (Some g) out = ap (λ (x : Queue Samples). x.pushed) out.after
+out_pushed s q last left None out = ap (λ (x : Queue Samples). x.pushed) out.same
 
 module _ {S K N : Type 0} (left : S → Option (List ℕ)) (input_faults : S → ℕ) (held : K → Option (List ℕ)) (output_faults : K → ℕ)
     (kept : N → Option (List ℕ)) (recon_faults : N → ℕ) where
