@@ -43,9 +43,6 @@ pub end_group_by : (c : Coder) (q r : Queue Samples) (g : Group Samples) (held r
     → GroupStops (book_by c g) true (8 * c.total.bytes) held recon e → EndStops c r held recon e
 end_group_by c q r g held recon e same due is h = subst (λ (x : Queue Samples). EndStops c x held recon e) same (end_group c q g held recon e due is h)
 
-end_edge : (c d : Coder) (b : Book) (held recon : Change) → GroupCoded c d b true held recon → IsEdge (group_text b true (8 * c.total.bytes))
-end_edge c d b held recon coded = omega (arith, coded.bytes)
-
 pub none_false : (t : Bool) → (t ≡ true → ⊥) → t ≡ false
 none_false true n = absurd (n refl)
 none_false false n = refl

@@ -12,6 +12,7 @@ pub mod Anchors
 pub mod GroupLaws
 pub mod Readings
 pub mod Progress
+pub mod Ended
 pub mod Due
 pub mod Ends
 pub mod Loop

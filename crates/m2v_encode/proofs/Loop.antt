@@ -131,7 +131,6 @@ can_group t u v g left passes can few read count same raw out kept settings buff
           (subst (λ (x : Queue Samples). is_due (after_group x) ≡ true) read.pushed again));
     }
 
-
 -- the queue is as it was
 can_same : (t u : Intake) → CanRead t → u.queue ≡ t.queue → u.count ≡ t.count → u.settings ≡ t.settings → vec_len u.raw ≡ frame_bytes (dims_of u.settings) → CanRead u
 can_same t u can queue count same raw = record {

@@ -1,5 +1,5 @@
 //! Raw frames, read one by one and handed out group by group.
-ghost use Rattle.std.specs.Prelude.{◌≡◌, ◌+◌, ◌<◌, ◌≤◌, [], ◌∷◌, true, false, None, Ok, IsTrue, IfOk, IfErr, IfNone, IfSome, OnErr, OnOk, All, length, take, vec_len};
+ghost use Rattle.std.specs.Prelude.{◌≡◌, ◌+◌, ◌<◌, ◌≤◌, [], true, false, None, Ok, IfOk, IfErr, IfNone, IfSome, OnOk, All, take, vec_len};
 ghost use Rattle.m2v_port.specs.Ends.{change};
 ghost use Rattle.m2v_port.specs.Port.{Moves, IsAtEnd};
 ghost use Rattle.m2v_plane.specs.Raw.{frame_bytes, pad};

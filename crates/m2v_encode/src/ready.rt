@@ -26,12 +26,11 @@ pub(crate) struct ReadyGroup {
 impl ReadyGroup {
     /// Does the group's jobs, by as many workers as the bench has. The calling thread, which is one of them, first does
     /// something of its own.
-    pub(crate) fn work_beside<
-        R: Threads + Wait + Sync,
-        G: Gate + Sync,
-        F: FnMut() -> A,
-        A,
-    >(self, crew: &Crew<R, G>, own: &mut F) -> (DoneGroup, A)
+    pub(crate) fn work_beside<R: Threads + Wait + Sync, G: Gate + Sync, F: FnMut() -> A, A>(
+        self,
+        crew: &Crew<R, G>,
+        own: &mut F,
+    ) -> (DoneGroup, A)
         requires ready { IsReady self }
         requires own { F.pre own.old }
         ensures done { result.0 ≡ self.book }

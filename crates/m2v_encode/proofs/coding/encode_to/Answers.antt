@@ -1,6 +1,6 @@
 use Rattle.m2v_slice.proofs.Groups.{size_is}
 use Rattle.m2v_encode.proofs.Due.{some_bytes}
-use Rattle.m2v_encode.proofs.Progress.{not_begun}
+use Rattle.m2v_encode.proofs.Ended.{not_begun}
 use Rattle.m2v_encode.proofs.coding.encode_to.Goals as goal
 
 pub returns-in_default-clause-err : goal.returns-in_default-clause-err

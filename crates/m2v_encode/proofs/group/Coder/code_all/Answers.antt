@@ -11,7 +11,8 @@ use Rattle.m2v_encode.specs.declared.answer.Summary.{Summary}
 use Rattle.m2v_encode.specs.Steps.{CanCode, ReadingStops, Comes, EndCoded, book_by}
 use Rattle.m2v_encode.proofs.Due.{some_bytes}
 use Rattle.m2v_encode.proofs.Loop.{goes_fresh, turns_fall, out_pushed, waits_reads, waits_group, waits_stopped, waits_last, waits_code}
-use Rattle.m2v_encode.proofs.Progress.{so_far_none, reading_stopped, all_ended, all_stopped, look_stopped, went_on}
+use Rattle.m2v_encode.proofs.Ended.{all_ended, all_stopped, look_stopped, went_on}
+use Rattle.m2v_encode.proofs.Progress.{so_far_none, reading_stopped}
 use Rattle.m2v_encode.proofs.group.Coder.code_all.Goals as goal
 
 -- ---- up to the first group

@@ -56,7 +56,7 @@ returns-clause-err g c =
     IfErr-weaker c.work_and_read-done.result.1 _ _
     (λ e h. inr (
       coded_since c.args.self.now c.prepare.new.self c.put_group.new.self _ c.work_and_read-done.result.0 _ _ _ c.prepare.ensures.settings c.prepare.ensures.total
-      (c.work_and_read-done.ensures.done ∙ c.in-Ok.ensures.value) c.in_ok-put_group.ensures.coded,
+          (c.work_and_read-done.ensures.done ∙ c.in-Ok.ensures.value) c.in_ok-put_group.ensures.coded,
       h,
     ))
     (c.work_and_read-done.ensures.reads).err

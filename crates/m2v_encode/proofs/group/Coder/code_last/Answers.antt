@@ -1,4 +1,4 @@
-use Rattle.std.proofs.Common.{◌∙◌, ◌*◌, ap, sym, subst}
+use Rattle.std.proofs.Common.{◌∙◌, ◌*◌, sym, subst}
 use Rattle.std.proofs.lemmas.Result.{on_ok_weaker}
 use Rattle.m2v_rate.specs.Plans.{account_at}
 use Rattle.m2v_order.specs.Whole.{handed}

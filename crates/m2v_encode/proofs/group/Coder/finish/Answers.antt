@@ -22,9 +22,9 @@ code_last-requires-clause-group g c = λ κs l.
     let h = c.in-Ok-Some.ensures in
     let is = c.in-Ok-Some.field-0-is in
     let out = group_out c.end.new.self c.next_group.new.self c.in-Ok-Some.group
-        (subst IsSoundQueue (sym c.end.ensures.value) (sound_end c.args.queue.now c.requires.sound))
-        (subst (λ (q : Queue Samples). q.pushed < 1000000) (sym c.end.ensures.value) c.requires.pushed)
-        ((rw is at h.due).0 refl) (rw is at h.frames) (rw is at h.pictures) (rw is at h.before) (rw is at h.group) (rw is at h.places) (rw is at h.size) (rw is at h.rest) in
+    (subst IsSoundQueue (sym c.end.ensures.value) (sound_end c.args.queue.now c.requires.sound))
+    (subst (λ (q : Queue Samples). q.pushed < 1000000) (sym c.end.ensures.value) c.requires.pushed)
+    ((rw is at h.due).0 refl) (rw is at h.frames) (rw is at h.pictures) (rw is at h.before) (rw is at h.group) (rw is at h.places) (rw is at h.size) (rw is at h.rest) in
     subst (λ (s : Settings). CanCode s c.in-Ok-Some.group) (ap (λ (q : Queue Samples). q.settings) c.end.ensures.value ∙ c.requires.settings) out.group
 
 pub returns-in_err-code_last-in-Ok-Some-clause-err : goal.returns-in_err-code_last-in-Ok-Some-clause-err
@@ -35,9 +35,9 @@ returns-in_err-code_last-in-Ok-Some-clause-err g c =
     let h = c.in-Ok-Some.ensures in
     let is = c.in-Ok-Some.field-0-is in
     let out = group_out c.end.new.self c.next_group.new.self c.in-Ok-Some.group
-        (subst IsSoundQueue (sym c.end.ensures.value) (sound_end c.args.queue.now c.requires.sound))
-        (subst (λ (q : Queue Samples). q.pushed < 1000000) (sym c.end.ensures.value) c.requires.pushed)
-        ((rw is at h.due).0 refl) (rw is at h.frames) (rw is at h.pictures) (rw is at h.before) (rw is at h.group) (rw is at h.places) (rw is at h.size) (rw is at h.rest) in
+    (subst IsSoundQueue (sym c.end.ensures.value) (sound_end c.args.queue.now c.requires.sound))
+    (subst (λ (q : Queue Samples). q.pushed < 1000000) (sym c.end.ensures.value) c.requires.pushed)
+    ((rw is at h.due).0 refl) (rw is at h.frames) (rw is at h.pictures) (rw is at h.before) (rw is at h.group) (rw is at h.places) (rw is at h.size) (rw is at h.rest) in
     rw (p.1, p.2)
     (end_group_by c.args.self.now c.end.new.self (after_end c.args.queue.now) (handed c.in-Ok-Some.group) output recon _ c.end.ensures.value out.due out.is c.in_err-code_last-in-Ok-Some.ensures.err)
 
@@ -47,9 +47,9 @@ returns-in_err-put_bytes-in-Ok-Some-clause-err g c =
     let h = c.in-Ok-Some.ensures in
     let is = c.in-Ok-Some.field-0-is in
     let out = group_out c.end.new.self c.next_group.new.self c.in-Ok-Some.group
-        (subst IsSoundQueue (sym c.end.ensures.value) (sound_end c.args.queue.now c.requires.sound))
-        (subst (λ (q : Queue Samples). q.pushed < 1000000) (sym c.end.ensures.value) c.requires.pushed)
-        ((rw is at h.due).0 refl) (rw is at h.frames) (rw is at h.pictures) (rw is at h.before) (rw is at h.group) (rw is at h.places) (rw is at h.size) (rw is at h.rest) in
+    (subst IsSoundQueue (sym c.end.ensures.value) (sound_end c.args.queue.now c.requires.sound))
+    (subst (λ (q : Queue Samples). q.pushed < 1000000) (sym c.end.ensures.value) c.requires.pushed)
+    ((rw is at h.due).0 refl) (rw is at h.frames) (rw is at h.pictures) (rw is at h.before) (rw is at h.group) (rw is at h.places) (rw is at h.size) (rw is at h.rest) in
     rw (p.1, p.2)
     (end_put_by g.K.Sink.held g.K.Sink.faults g.N.Sink.held g.N.Sink.faults c.args.self.now c.code_last.new.self c.end.new.self (after_end c.args.queue.now) (handed c.in-Ok-Some.group) _ _ _ _ _ _ _ c.end.ensures.value out.due out.is end_code
     c.code_last.ensures.output.counts c.in_ok-code_last-in-Ok-Some.ensures.coded c.in_err-put_bytes-in-Ok-Some.ensures.err)
@@ -59,9 +59,9 @@ returns-in_ok-put_bytes-in-Ok-Some-clause-coded g c =
     let h = c.in-Ok-Some.ensures in
     let is = c.in-Ok-Some.field-0-is in
     let out = group_out c.end.new.self c.next_group.new.self c.in-Ok-Some.group
-        (subst IsSoundQueue (sym c.end.ensures.value) (sound_end c.args.queue.now c.requires.sound))
-        (subst (λ (q : Queue Samples). q.pushed < 1000000) (sym c.end.ensures.value) c.requires.pushed)
-        ((rw is at h.due).0 refl) (rw is at h.frames) (rw is at h.pictures) (rw is at h.before) (rw is at h.group) (rw is at h.places) (rw is at h.size) (rw is at h.rest) in
+    (subst IsSoundQueue (sym c.end.ensures.value) (sound_end c.args.queue.now c.requires.sound))
+    (subst (λ (q : Queue Samples). q.pushed < 1000000) (sym c.end.ensures.value) c.requires.pushed)
+    ((rw is at h.due).0 refl) (rw is at h.frames) (rw is at h.pictures) (rw is at h.before) (rw is at h.group) (rw is at h.places) (rw is at h.size) (rw is at h.rest) in
     end_all_by g.K.Sink.held g.K.Sink.faults g.N.Sink.held g.N.Sink.faults c.args.frames c.args.self.now c.code_last.new.self c.end.new.self (after_end c.args.queue.now) (handed c.in-Ok-Some.group) _ _ _ _ _ _ _ c.end.ensures.value out.is end_code
     c.in_ok-code_last-in-Ok-Some.ensures.coded c.in_ok-put_bytes-in-Ok-Some.ensures.grown refl
 

@@ -1,4 +1,4 @@
-use Rattle.std.proofs.Common.{◌≡◌, ◌∙◌, ◌+◌, ◌*◌, length, sym, ap, subst, arith}
+use Rattle.std.proofs.Common.{◌∙◌, length, sym, ap, subst, arith}
 use Rattle.std.specs.Prelude.{All}
 use Rattle.m2v_set.specs.declared.settings.Settings.{Settings}
 use Rattle.m2v_set.specs.Numbers.{rows_by}
@@ -6,9 +6,7 @@ use Rattle.m2v_order.specs.Times.{intervals_of}
 use Rattle.m2v_order.specs.Whole.{handed}
 use Rattle.m2v_rate.specs.Sharing.{IsPictureActivity}
 use Rattle.m2v_rate.specs.Plans.{Entries}
-use Rattle.m2v_slice.specs.Books.{Book, rows}
-use Rattle.m2v_slice.specs.Conditions.{IsBook, IsBegunFor}
-use Rattle.m2v_slice.specs.Jobs.{jobs_of}
+use Rattle.m2v_slice.specs.Conditions.{IsBegunFor}
 use Rattle.m2v_encode.specs.declared.group.Coder.{Coder}
 use Rattle.m2v_slice.proofs.Begun.{begun_for}
 use Rattle.m2v_slice.proofs.Activities.{length-picture_activities}

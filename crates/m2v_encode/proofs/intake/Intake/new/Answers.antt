@@ -1,5 +1,4 @@
-use Rattle.std.proofs.Common.{arith, ap, sym, subst, ◌∙◌, ◌≤◌}
-use Rattle.m2v_plane.specs.declared.dims.Dims.{Dims}
+use Rattle.std.proofs.Common.{arith, ap, sym, subst, ◌∙◌}
 use Rattle.m2v_plane.specs.Raw.{frame_bytes}
 use Rattle.m2v_plane.specs.Samples.{Samples}
 use Rattle.m2v_order.specs.Groups.{Queue, is_due, IsSoundQueue}

@@ -1,4 +1,4 @@
-use Rattle.std.proofs.Common.{arith, refl, subst, ap, ◌∙◌, ◌≡◌, ◌<◌, ℕ, List, length, take, inr}
+use Rattle.std.proofs.Common.{arith, subst, ap, ◌∙◌, ◌≡◌, ◌<◌, ℕ, List, length, take, inr}
 use Rattle.std.proofs.lemmas.List.{length-take-le, take_all}
 use Rattle.std.proofs.lemmas.List.Elements.{All-take}
 use Rattle.std.proofs.lemmas.Result.{err_from_is_err_and}

@@ -1,6 +1,5 @@
-use Rattle.std.proofs.Common.{arith, ap, sym, refl, Ok, ◌∙◌, vec_len}
+use Rattle.std.proofs.Common.{arith, ap, sym, Ok, ◌∙◌, vec_len}
 use Rattle.m2v_encode.proofs.Loop.{sound_read, next_ended, next_full, next_lost, next_due, next_on}
-use Rattle.m2v_encode.proofs.Readings.{reads_none}
 use Rattle.m2v_encode.proofs.intake.Intake.next_group.Goals as goal
 
 pub returns-then-not-branch-clause-reads : goal.returns-then-not-branch-clause-reads
@@ -37,8 +36,8 @@ loop-self-preserved g c =
     let inv = c.loop-self.invariant in
     let h = c.in_ok-next_frame.ensures in
     let on = next_on g.S.Source.left g.S.Source.faults c.args.self.now c.loop-self.self c.next_frame.new.self c.due.new.self c.in-Ok.next _ _ _ c.settings-known.ensures.passes inv.reads inv.can inv.settings
-        (omega arith) (h.read (ap Ok c.if-not-branch.false)) c.next_frame.ensures.input (h.counted (ap Ok c.if-not-branch.false)) c.next_frame.ensures.settings c.next_frame.ensures.raw
-        c.in-Ok.ensures.none (sym c.is_some.ensures ∙ c.if-is_some.false) in
+    (omega arith) (h.read (ap Ok c.if-not-branch.false)) c.next_frame.ensures.input (h.counted (ap Ok c.if-not-branch.false)) c.next_frame.ensures.settings c.next_frame.ensures.raw
+    c.in-Ok.ensures.none (sym c.is_some.ensures ∙ c.if-is_some.false) in
     record {
       reads = on.0;
       can = on.1;
