@@ -1,7 +1,7 @@
 -- What a cutter hands out, without what stands before the first unit and without an end code.
 use Rattle.std.proofs.Common.{◌≡◌, ℕ, ◌+◌, true, List, ◌++◌, Option, Some, None, sym, ap, subst, ◌∙◌, arith}
 use Rattle.std.specs.Prelude.{IfSome}
-use Rattle.m2v_model.specs.Units.{cut, joined, AreUnits}
+use Rattle.m2v_model.specs.Units.{Units, joined, AreUnits}
 use Rattle.m2v_model.proofs.CutLaws.{cut_cuts, cut_units, are_before}
 use Rattle.m2v_law_group.specs.Groups.{to_end}
 use Rattle.m2v_law_group.proofs.Lists.{ended_units}
@@ -14,6 +14,8 @@ use Rattle.m2v_decode.specs.m2v_dec_piece.Sound.{IsSoundPiece, GoesOnward}
 use Rattle.m2v_decode.specs.m2v_dec_piece.Stepping.{Handed}
 use Rattle.m2v_decode.specs.Decoding.{whole_of}
 use Rattle.m2v_dec_piece.proofs.WholeLaws.{whole_is}
+use Rattle.m2v_mend.specs.declared.info.Counted.{Counted}
+use Rattle.m2v_mend.specs.Telling.{IsCounted}
 use Rattle.m2v_mend.specs.Feeding.{from_end, IsBare, AreBare, IsOwn, KeepsZeros, KeepZeros, Fed, IsOnward}
 use Rattle.m2v_mend.proofs.FrontLaws.{trimmed_room}
 use Rattle.m2v_mend.proofs.Stretched.{units_parted}
@@ -43,11 +45,20 @@ fed_as old new left left' (Some p) (Some q) h bare keeps = fed_some old new left
 
 -- ---- whatever the source tells
 
+-- its units are those before the end code
+units_bare : (q : Piece) (place : ℕ) (whole : List ℕ) → IsBare q place whole → units_of (whole_of q) ≡ to_end (units_of whole)
+units_bare q place whole is =
+    let us = units_of whole in
+    let are = are_before (to_end us) (from_end us) (subst AreUnits (units_parted us) (cut_cuts whole).are_units) in
+    ap units_of is.whole ∙ cut_units (to_end us) are
+
+pub counted_bare : (q : Piece) (place : ℕ) (whole : List ℕ) (c : Counted) → IsBare q place whole → IsCounted (to_end (units_of whole)) c → IsCounted (units_of (whole_of q)) c
+counted_bare q place whole c is = subst (λ (us : Units). IsCounted us c) (sym (units_bare q place whole is))
+
 bare_own : (q : Piece) (place : ℕ) (whole : List ℕ) → IsBare q place whole → IsOwn q
 bare_own q place whole is =
-    let us = (cut 0 whole).1 in
-    let are = are_before (to_end us) (from_end us) (subst AreUnits (units_parted us) (cut_cuts whole).are_units) in
-    let same : units_of (whole_of q) ≡ to_end us = ap units_of is.whole ∙ cut_units (to_end us) are in
+    let us = units_of whole in
+    let same = units_bare q place whole is in
     record { units = is.whole ∙ sym (ap joined same); no_end = ap has_end same ∙ none_end (to_end us) (ended_units us).3; sound = is.sound }
 
 pub own_as : (o q : Option Piece) → AreBare o q → IfSome q IsOwn

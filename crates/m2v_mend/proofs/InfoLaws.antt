@@ -8,10 +8,12 @@ use Rattle.m2v_model.specs.Units.{Units, joined, unit_bits, body}
 use Rattle.m2v_model.specs.Looking.{number_from}
 use Rattle.m2v_model.specs.Streams.{value_of}
 use Rattle.m2v_model.proofs.CutLaws.{joined_bits}
-use Rattle.m2v_law_group.specs.Groups.{is_picture, is_sequence, is_group, has_sequence, group_headers, is_number, coded_pictures}
+use Rattle.m2v_model.specs.Pieces.{is_end}
+use Rattle.m2v_law_group.specs.Groups.{is_picture, is_sequence, is_group, has_sequence, group_headers, is_number, coded_pictures, to_end}
 use Rattle.m2v_law_seam.specs.Spans.{units_of, units_in, begins_kind, has_group, picture_count, number_or, is_kind, first_is, is_matrices, has_matrices}
 use Rattle.m2v_law_seam.specs.Faults.{before_picture, before_matrices}
 use Rattle.m2v_mend.specs.declared.info.Counted.{Counted}
+use Rattle.m2v_mend.specs.Feeding.{from_end}
 use Rattle.m2v_mend.specs.Telling.{first_kind, IsCounted, place_with, counted_with}
 
 -- ---- what is counted
@@ -84,9 +86,9 @@ counted_is us = record {
   place = place_from us counted_none refl ∙ omega arith;
 }
 
--- what is counted of those before
+-- what is counted of those before, of all up to the first sequence end code
 pub record CountedTo (all us : Units) (c : Counted) : Type 0 where
-  pub going : counted_from counted_none all ≡ counted_from c us
+  pub going : counted_from counted_none (to_end all) ≡ counted_from c (to_end us)
   pub short : unit_bits all < 2 * 549755813888
   pub pictures : c.pictures + unit_bits us ≤ unit_bits all
   pub place : 8 * c.matrices_place + unit_bits us ≤ unit_bits all
@@ -94,7 +96,7 @@ pub record CountedTo (all us : Units) (c : Counted) : Type 0 where
 pub counted_start : (us : Units) (c : Counted) → c ≡ record { sequence = false; group = false; pictures = 0; matrices = false; matrices_place = 0 } → unit_bits us < 1099511627776 → CountedTo us us c
 unfolding counted_none
 counted_start us c e lt = record {
-  going = ap (λ (d : Counted). counted_from d us) (sym e);
+  going = ap (λ (d : Counted). counted_from d (to_end us)) (sym e);
   short = omega (arith, lt);
   pictures = omega (arith, ap (λ (d : Counted). d.pictures) e);
   place = omega (arith, ap (λ (d : Counted). d.matrices_place) e);
@@ -112,13 +114,29 @@ going_on : (u : List ℕ) (us : Units) (c : Counted) → counted_from c (u ∷ u
 unfolding counted_from
 going_on u us c = refl
 
-pub counted_more : (all old us : Units) (u : List ℕ) (c d : Counted) → CountedTo all old c → old ≡ u ∷ us → 4 ≤ length u → d ≡ counted_with u c → CountedTo all us d
-counted_more all old us u c d h is long e =
+-- a unit that is no end code
+to_more : (u : List ℕ) (us : Units) → is_end (value_of u) ≡ false → to_end (u ∷ us) ≡ u ∷ to_end us
+unfolding to_end
+to_more u us off = rw off refl
+
+from_more : (u : List ℕ) (us : Units) → is_end (value_of u) ≡ false → from_end (u ∷ us) ≡ from_end us
+unfolding from_end
+from_more u us off = rw off refl
+
+no_end : (u : List ℕ) {v : ℕ} → value_of u ≡ v → (v ≡ 0xB7 → ⊥) → is_end (value_of u) ≡ false
+unfolding is_end
+no_end u value off = ne_eqb (value_of u) 0xB7 (λ e. off (sym value ∙ e))
+
+pub from_on : (all old us : Units) (u : List ℕ) {v : ℕ} → from_end all ≡ from_end old → old ≡ u ∷ us → value_of u ≡ v → (v ≡ 0xB7 → ⊥) → from_end all ≡ from_end us
+from_on all old us u h is value off = h ∙ ap from_end is ∙ from_more u us (no_end u value off)
+
+pub counted_more : (all old us : Units) (u : List ℕ) (c d : Counted) {v : ℕ} → CountedTo all old c → old ≡ u ∷ us → 4 ≤ length u → value_of u ≡ v → (v ≡ 0xB7 → ⊥) → d ≡ counted_with u c → CountedTo all us d
+counted_more all old us u c d h is long value off e =
     let bits : unit_bits old ≡ 8 * length u + unit_bits us = ap unit_bits is in
     let p : d.pictures ≤ c.pictures + 1 = subst (λ (x : Counted). x.pictures ≤ c.pictures + 1) (sym e) (more_pictures (nat_eq (value_of u) 0x00) c.pictures) in
     let q : d.matrices_place ≤ c.matrices_place + length u = subst (λ (x : Counted). x.matrices_place ≤ c.matrices_place + length u) (sym e) (more_place (c.matrices || is_matrices u) (length u) c.matrices_place) in
     record {
-      going = h.going ∙ ap (counted_from c) is ∙ going_on u us c ∙ ap (λ (x : Counted). counted_from x us) (sym e);
+      going = h.going ∙ ap (λ (l : Units). counted_from c (to_end l)) is ∙ ap (counted_from c) (to_more u us (no_end u value off)) ∙ going_on u (to_end us) c ∙ ap (λ (x : Counted). counted_from x (to_end us)) (sym e);
       short = h.short;
       pictures = omega (arith, h.pictures, bits, p, long);
       place = omega (arith, h.place, bits, q);
@@ -128,8 +146,27 @@ ended : (c : Counted) → counted_from c [] ≡ c
 unfolding counted_from
 ended c = refl
 
-pub counted_all : (all us : Units) (c : Counted) → CountedTo all us c → us ≡ [] → IsCounted all c
-counted_all all us c h none = subst (IsCounted all) (h.going ∙ ap (counted_from c) none ∙ ended c) (counted_is all)
+counted_to : (all us : Units) (c : Counted) → CountedTo all us c → to_end us ≡ [] → IsCounted (to_end all) c
+counted_to all us c h none = subst (IsCounted (to_end all)) (h.going ∙ ap (counted_from c) none ∙ ended c) (counted_is (to_end all))
+
+to_none : to_end [] ≡ []
+unfolding to_end
+to_none = refl
+
+to_here : (u : List ℕ) (us : Units) → is_end (value_of u) ≡ true → to_end (u ∷ us) ≡ []
+unfolding to_end
+to_here u us on = rw on refl
+
+is_here : (u : List ℕ) {v : ℕ} → value_of u ≡ v → v ≡ 0xB7 → is_end (value_of u) ≡ true
+unfolding is_end
+is_here u value on = eq-eqb (value_of u) 0xB7 (value ∙ on)
+
+-- no unit is left, or the first of them is an end code
+pub counted_all : (all us : Units) (c : Counted) → CountedTo all us c → us ≡ [] → IsCounted (to_end all) c
+counted_all all us c h none = counted_to all us c h (ap to_end none ∙ to_none)
+
+pub counted_here : (all us rest : Units) (u : List ℕ) (c : Counted) {v : ℕ} → CountedTo all us c → us ≡ u ∷ rest → value_of u ≡ v → v ≡ 0xB7 → IsCounted (to_end all) c
+counted_here all us rest u c h is value on = counted_to all us c h (ap to_end is ∙ to_here u rest (is_here u value on))
 
 -- ---- the first picture
 

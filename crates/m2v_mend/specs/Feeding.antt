@@ -13,6 +13,7 @@ use Rattle.m2v_law_group.specs.Groups.{to_end}
 use Rattle.m2v_law_seam.specs.Spans.{units_of, Stretch, stretches_from}
 use Rattle.m2v_law_seam.specs.Strands.{has_end}
 use Rattle.m2v_mend.specs.Editing.{IsUnits, EndsInZeros, zeros_in}
+use Rattle.m2v_mend.specs.Telling.{IsCounted}
 
 -- a piece without what stands before its first unit, and without the end code
 abbrev pub bare : List ℕ → List ℕ
@@ -94,10 +95,11 @@ abbrev pub IsOnward : Option Piece → Cutting → Cutting → Type 0
 IsOnward (Some q) old new = (old.place < new.place) × (new.place ≤ 2 ^ 36) × (new.begun ≡ true)
 IsOnward None old new = (old.place ≤ new.place) × (new.place ≤ 2 ^ 36)
 
--- how many bytes the units of a piece have, and those before a sequence end code
+-- how many bytes the units of a piece have, and those before a sequence end code; and what is counted of these
 pub record IsExtent (whole : List ℕ) (e : Extent) : Type 0 where
   pub units : e.units ≡ length (joined (cut 0 whole).1)
   pub own : e.own ≡ length (bare whole)
+  pub counted : IsCounted (to_end (units_of whole)) e.counted
 
 -- a cutter whose next piece begins with its next byte
 abbrev pub within : Cutting → Cutting

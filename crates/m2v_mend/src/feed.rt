@@ -1,38 +1,20 @@
 //! The pieces of an input's stretches, as they are read.
 ghost use Rattle.std.specs.Prelude.{◌≡◌, ◌+◌, ◌-◌, ◌^◌, ◌≤◌, ◌<◌, length, take, drop, vec_len, false, IfOk, IfErr, IfSome, OnOk, IsErrOf};
 ghost use Rattle.m2v_port.specs.Port.{Rose};
-ghost use Rattle.m2v_model.specs.Units.{unit_bits};
 ghost use Rattle.m2v_decode.specs.m2v_dec_piece.Sound.{IsSoundPiece};
 ghost use Rattle.m2v_decode.specs.m2v_dec_piece.Cutting.{IsReading};
 ghost use Rattle.m2v_decode.specs.m2v_dec_piece.Stepping.{Stopped};
 ghost use Rattle.m2v_decode.specs.Decoding.{whole_of};
-ghost use Rattle.m2v_mend.specs.Feeding.{from_end, IsPart, IsBare, AreBare, IsExtent, IsOwn, KeepsZeros, KeepZeros, Fed, IsOnward, nothing_read, within};
+ghost use Rattle.m2v_mend.specs.Feeding.{IsPart, IsBare, AreBare, IsExtent, IsOwn, KeepsZeros, KeepZeros, Fed, IsOnward, nothing_read, within};
 
 use crate::Memory;
-use crate::walk::{END, units};
-use m2v_dec_unit::UnitReader;
+use crate::fresh::Fresh;
+use crate::info::{Counted, count};
+use crate::walk::units;
 use m2v_decode::{Cutter, DecodeError, Piece};
 use m2v_port::Source;
 use std::alloc::Global;
 use std::marker::Model;
-
-/// How many bits units have from the first sequence end code on.
-#[tactic(auto, unfolding(crate::specs::Feeding::from_end, m2v_model::specs::Pieces::is_end))]
-fn bits_from_end(units: &mut UnitReader) -> u64
-    ensures { result ≡ unit_bits (from_end units.old) }
-{
-    loop {
-        let left = units.left();
-        match units.next() {
-            None => return 0,
-            Some(u) => {
-                if u.value() == END {
-                    return left;
-                }
-            }
-        }
-    }
-}
 
 /// So many bytes behind so many, or as many as there are.
 fn bytes_of(alloc: Global, bytes: &[u8], before: usize, own: u64) -> Result<Vec<u8>, Memory>
@@ -61,11 +43,13 @@ fn part(alloc: Global, piece: &Piece, before: u64, own: u64) -> Result<Piece, Me
     })
 }
 
-/// What stands in a piece from its first unit on, and how much of it before a sequence end code, in bytes.
+/// How much of a piece stands from its first unit on, and how much of it before a sequence end code, in bytes; and what is
+/// counted there.
 #[derive(Clone, Copy)]
 struct Extent {
     units: u64,
     own: u64,
+    counted: Counted,
 }
 
 /// Measures a piece.
@@ -74,20 +58,21 @@ fn measured(piece: &Piece) -> Extent
     ensures { IsExtent (whole_of piece.now) result }
 {
     let all = units(piece).left();
-    let behind = bits_from_end(&mut units(piece));
+    let (counted, behind) = count(&mut units(piece));
     Extent {
         units: all / 8,
         own: all.saturating_sub(behind) / 8,
+        counted,
     }
 }
 
 /// A piece without what stands before its first unit, and without a sequence end code.
-fn bared(alloc: Global, piece: Piece) -> Result<Piece, Memory>
-    requires { IsSoundPiece piece }
+fn bared(alloc: Global, piece: Piece, extent: &Extent) -> Result<Piece, Memory>
+    requires sound { IsSoundPiece piece }
+    requires extent { IsExtent (whole_of piece) extent.now }
     ensures bare { IfOk result (λ p. IsBare p piece.place (whole_of piece)) }
     ensures zeros { IfOk result (KeepsZeros piece) }
 {
-    let extent = measured(&piece);
     if extent.own == piece.length {
         return Ok(piece);
     }
@@ -101,8 +86,19 @@ fn bared(alloc: Global, piece: Piece) -> Result<Piece, Memory>
     part(alloc, &piece, piece.length - extent.units, extent.own)
 }
 
+/// The same, with what is counted of it.
+fn fresh_of(alloc: Global, piece: Piece) -> Result<Fresh, Memory>
+    requires { IsSoundPiece piece }
+    ensures bare { IfOk result (λ p. IsBare p piece.place (whole_of piece)) }
+    ensures zeros { IfOk result (KeepsZeros piece) }
+{
+    let extent = measured(&piece);
+    let bare = bared(alloc, piece, &extent)?;
+    Ok(Fresh::of(bare, extent.counted))
+}
+
 /// The same, where there is a piece.
-fn bared_if(alloc: Global, piece: Option<Piece>) -> Result<Option<Piece>, Memory>
+fn fresh_if(alloc: Global, piece: Option<Piece>) -> Result<Option<Fresh>, Memory>
     requires { IfSome piece IsSoundPiece }
     ensures bare { IfOk result (AreBare piece) }
     ensures zeros { IfOk result (KeepZeros piece) }
@@ -110,7 +106,7 @@ fn bared_if(alloc: Global, piece: Option<Piece>) -> Result<Option<Piece>, Memory
     match piece {
         None => Ok(None),
         Some(piece) => {
-            let bare = bared(alloc, piece)?;
+            let bare = fresh_of(alloc, piece)?;
             Ok(Some(bare))
         }
     }
@@ -164,7 +160,7 @@ impl Feed {
         &mut self,
         alloc: Global,
         input: &mut S,
-    ) -> Result<Option<Piece>, DecodeError>
+    ) -> Result<Option<Fresh>, DecodeError>
         requires { self.old.failed ≡ false }
         ensures ok { IfOk result (Fed self.old (S.left input.old) self.new (S.left input.new)) }
         ensures own { IfOk result (λ o. IfSome o IsOwn) }
@@ -178,7 +174,7 @@ impl Feed {
         ensures most { self.old.place ≤ 2 ^ 36 }
     {
         let piece = self.cutter.next_piece(alloc, input)?;
-        let bare = bared_if(alloc, piece)?;
+        let bare = fresh_if(alloc, piece)?;
         Ok(bare)
     }
 }

@@ -13,6 +13,7 @@ ghost use Rattle.m2v_mend.specs.Making.{StrandReady, CanBeNext, IsFolded, IsNext
 ghost use Rattle.m2v_mend.specs.Folded.{IsTold, IsBegun, IsGrown, SameHeads, Waits};
 
 use crate::Memory;
+use crate::fresh::Fresh;
 use crate::groups::groups_with;
 use crate::head::Heads;
 use crate::info::{begins_step, waits_behind};
@@ -20,7 +21,6 @@ use crate::member::Member;
 use crate::mender::Mender;
 use crate::parts::SpanParts;
 use crate::sums::sum;
-use m2v_decode::Piece;
 use std::alloc::Global;
 
 /// What is made of the pieces so far.
@@ -140,7 +140,7 @@ impl Folding {
     ///
     /// # Errors
     /// Want of memory. No call may follow then.
-    pub(crate) fn piece(&mut self, alloc: Global, piece: Piece) -> Result<(), Memory>
+    pub(crate) fn piece(&mut self, alloc: Global, piece: Fresh) -> Result<(), Memory>
         requires ready { IsFoldReady self.old }
         requires sound { IsSoundPiece piece }
         requires units { IsUnits piece }

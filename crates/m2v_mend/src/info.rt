@@ -1,16 +1,17 @@
 //! What a piece tells without being decoded: which headers and pictures it has, and where they stand.
 ghost use Rattle.std.specs.Prelude.{◌≡◌, ℕ, List, [], ◌∷◌, nat_eq, ◌+◌, ◌-◌, ◌/◌, ◌^◌, ◌<◌, ◌≤◌, ◌||◌, ◌&&◌, length};
-ghost use Rattle.m2v_model.specs.Units.{joined};
+ghost use Rattle.m2v_model.specs.Units.{joined, unit_bits};
 ghost use Rattle.m2v_decode.specs.m2v_dec_piece.Sound.{IsSoundPiece};
 ghost use Rattle.m2v_decode.specs.Decoding.{whole_of};
-ghost use Rattle.m2v_law_group.specs.Groups.{coded_pictures};
+ghost use Rattle.m2v_law_group.specs.Groups.{coded_pictures, to_end};
 ghost use Rattle.m2v_law_seam.specs.Spans as spans;
 ghost use Rattle.m2v_law_seam.specs.Spans.{units_of, number_or, field_by, first_field};
 ghost use Rattle.m2v_law_seam.specs.Faults.{before_picture};
+ghost use Rattle.m2v_mend.specs.Feeding.{from_end};
 ghost use Rattle.m2v_mend.specs.Gathering as gathering;
 ghost use Rattle.m2v_mend.specs.Telling.{IsInfo, IsCounted, first_kind, unit_or_none, pictures_with, place_with, counted_with};
 
-use crate::walk::{EXTENSION, GROUP, PICTURE, SEQUENCE, is, matrices_seen, number_in, units};
+use crate::walk::{END, EXTENSION, GROUP, PICTURE, SEQUENCE, is, matrices_seen, number_in, units};
 use m2v_dec_unit::{Unit, UnitReader};
 use m2v_decode::Piece;
 
@@ -34,7 +35,7 @@ pub struct PieceInfo {
     pub matrices_place: u64,
 }
 
-/// What is counted of all units of a piece.
+/// What is counted of units.
 #[derive(Clone, Copy, Debug, PartialEq, Eq)]
 pub struct Counted {
     pub sequence: bool,
@@ -159,9 +160,11 @@ fn counted_with(counted: &Counted, unit: &Unit) -> Counted
     }
 }
 
-/// What is counted of units.
-fn count(units: &mut UnitReader) -> Counted
-    ensures { IsCounted units.old result }
+/// What is counted of units before the first sequence end code, and how many bits they have from it on.
+#[tactic(auto, unfolding(crate::specs::Feeding::from_end, m2v_model::specs::Pieces::is_end))]
+pub(crate) fn count(units: &mut UnitReader) -> (Counted, u64)
+    ensures counted { IsCounted (to_end units.old) result.0 }
+    ensures behind { result.1 ≡ unit_bits (from_end units.old) }
 {
     let _total = units.left();
     let mut counted = Counted {
@@ -172,20 +175,26 @@ fn count(units: &mut UnitReader) -> Counted
         matrices_place: 0,
     };
     loop {
+        let left = units.left();
         match units.next() {
-            None => return counted,
-            Some(unit) => counted = counted_with(&counted, &unit),
+            None => return (counted, 0),
+            Some(unit) => {
+                if unit.value() == END {
+                    return (counted, left);
+                }
+                counted = counted_with(&counted, &unit);
+            }
         }
     }
 }
 
-/// What a piece tells.
-pub fn info_of(piece: &Piece) -> PieceInfo
-    requires { IsSoundPiece piece.now }
+/// What a piece tells, by what was counted of its units.
+pub(crate) fn info_of(piece: &Piece, counted: &Counted) -> PieceInfo
+    requires sound { IsSoundPiece piece.now }
+    requires counted { IsCounted (units_of (whole_of piece.now)) counted.now }
     ensures { IsInfo (units_of (whole_of piece.now)) result }
 {
     let first = first_picture(&mut units(piece));
-    let counted = count(&mut units(piece));
     PieceInfo {
         sequence: counted.sequence,
         group: counted.group,

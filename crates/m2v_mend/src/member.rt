@@ -4,6 +4,7 @@ ghost use Rattle.m2v_decode.specs.m2v_dec_piece.Sound.{IsSoundPiece};
 ghost use Rattle.m2v_mend.specs.Editing.{IsUnits};
 ghost use Rattle.m2v_mend.specs.Members.{IsMember};
 
+use crate::fresh::Fresh;
 use crate::info::{PieceInfo, info_of};
 use m2v_decode::Piece;
 
@@ -16,13 +17,15 @@ pub struct Member {
 
 impl Member {
     /// A piece whose bytes are units.
-    pub fn new(piece: Piece) -> Member
-        requires sound { IsSoundPiece piece }
-        requires units { IsUnits piece }
-        ensures piece { result.piece ≡ piece }
+    pub(crate) fn new(fresh: Fresh) -> Member
+        requires sound { IsSoundPiece fresh }
+        requires units { IsUnits fresh }
+        ensures piece { result.piece ≡ fresh }
         ensures is { IsMember result }
     {
-        let info = info_of(&piece);
+        let counted = fresh.counted();
+        let piece = fresh.into_piece();
+        let info = info_of(&piece, &counted);
         Member { piece, info }
     }
 }

@@ -13,10 +13,11 @@ use crate::Memory;
 use crate::answer::MendError;
 use crate::feed::Feed;
 use crate::folding::Folding;
+use crate::fresh::Fresh;
 use crate::gap::Gap;
 use crate::listing::put_lines;
 use crate::writing::put_pieces;
-use m2v_decode::{DecodeError, Piece};
+use m2v_decode::DecodeError;
 use m2v_port::{Sink, Source};
 use std::alloc::Global;
 
@@ -86,32 +87,32 @@ fn flush<K: Sink, L: Sink>(
 /// Takes one piece more, and writes what is kept and told by it. A piece without a byte is passed over.
 fn take<K: Sink, L: Sink>(
     alloc: Global,
-    piece: Piece,
+    fresh: Fresh,
     folding: &mut Folding,
     output: &mut K,
     list: &mut L,
 ) -> Result<(), MendError>
     requires ready { IsFoldReady folding.old }
-    requires own { IsOwn piece }
+    requires own { IsOwn fresh }
     requires output { IsTrue (K.ready output.old) }
     requires list { IsTrue (L.ready list.old) }
     ensures told { OnOk result (IsTaken (held_by K.held L.held output.old list.old)
-        (held_by K.held L.held output.new list.new) piece
+        (held_by K.held L.held output.new list.new) fresh
         folding.old folding.new) }
     ensures ready { OnOk result (IsFoldReady folding.new) }
     ensures err { OnErr result ((written : List ℕ) (listed : List mending.Gap) (g : Gathering)
-        → IsFolded written listed g folding.old → IsNextIf g piece
-        → IsPartOf (with_whole g piece) written listed (held_by K.held L.held output.old list.old)
+        → IsFolded written listed g folding.old → IsNextIf g fresh
+        → IsPartOf (with_whole g fresh) written listed (held_by K.held L.held output.old list.old)
         (held_by K.held L.held output.new list.new)) }
     ensures fell { IfErr result (FellOut (Rose (K.faults output.old) (K.faults output.new)
         ⊎ Rose (L.faults list.old) (L.faults list.new))) }
     ensures output { SinkStays K.ready K.name K.faults output.old output.new }
     ensures list { SinkStays L.ready L.name L.faults list.old list.new }
 {
-    if piece.length == 0 {
+    if fresh.length() == 0 {
         return Ok(());
     }
-    folding.piece(alloc, piece)?;
+    folding.piece(alloc, fresh)?;
     flush(alloc, folding, output, list)
 }
 

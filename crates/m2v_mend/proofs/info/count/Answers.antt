@@ -1,13 +1,22 @@
-use Rattle.std.proofs.Common.{refl, arith}
-use Rattle.m2v_mend.proofs.InfoLaws.{counted_start, counted_more, counted_all}
+use Rattle.std.proofs.Common.{refl, sym, arith}
+use Rattle.m2v_mend.proofs.InfoLaws.{counted_start, counted_more, counted_all, counted_here, from_on}
 use Rattle.m2v_mend.proofs.info.count.Goals as goal
 
 pub loop-counted-init : goal.loop-counted-init
-loop-counted-init c = counted_start c.args.units.now _ refl (omega (arith, c.left-total.ensures.value, c.left-total.ensures.most))
+loop-counted-init c = record {
+  counted = counted_start c.args.units.now _ refl (omega (arith, c.left-total.ensures.value, c.left-total.ensures.most));
+  behind = refl;
+}
 
-pub returns-in-None : goal.returns-in-None
-returns-in-None c = counted_all c.args.units.now c.loop-counted.units c.loop-counted.counted c.loop-counted.invariant c.in-None.ensures.next.0
+pub returns-in-None-clause-counted : goal.returns-in-None-clause-counted
+returns-in-None-clause-counted c = counted_all c.args.units.now c.loop-counted.units c.loop-counted.counted c.loop-counted.invariant.counted c.in-None.ensures.next.0
+
+pub returns-then-value-clause-counted : goal.returns-then-value-clause-counted
+returns-then-value-clause-counted c =
+    counted_here c.args.units.now c.loop-counted.units c.next.new.self c.in-Some.unit c.loop-counted.counted c.loop-counted.invariant.counted c.in-Some.ensures.next (sym c.value.ensures) c.if-value.true
 
 pub loop-counted-preserved : goal.loop-counted-preserved
-loop-counted-preserved c =
-    counted_more c.args.units.now c.loop-counted.units c.next.new.self c.in-Some.unit c.loop-counted.counted c.counted_with-counted.result c.loop-counted.invariant c.in-Some.ensures.next c.in-Some.ensures.long c.counted_with-counted.ensures
+loop-counted-preserved c = record {
+  counted = counted_more c.args.units.now c.loop-counted.units c.next.new.self c.in-Some.unit c.loop-counted.counted c.counted_with-counted.result c.loop-counted.invariant.counted c.in-Some.ensures.next c.in-Some.ensures.long (sym c.value.ensures) c.if-value.false c.counted_with-counted.ensures;
+  behind = from_on c.args.units.now c.loop-counted.units c.next.new.self c.in-Some.unit c.loop-counted.invariant.behind c.in-Some.ensures.next (sym c.value.ensures) c.if-value.false;
+}
