@@ -1,5 +1,5 @@
 -- How copies of pieces are made, one after another.
-use Rattle.std.proofs.Common.{◌≡◌, ℕ, ◌+◌, ◌<◌, ◌≤◌, Bool, true, List, [], ◌∷◌, ◌++◌, length, drop, get_or, sym, subst, append_assoc, append-nil}
+use Rattle.std.proofs.Common.{◌≡◌, ℕ, ◌+◌, ◌<◌, ◌≤◌, Bool, true, List, [], ◌∷◌, ◌++◌, length, drop, get_or, refl, sym, subst, append_assoc, append-nil}
 use Rattle.std.specs.Prelude.{All}
 use Rattle.std.proofs.lemmas.List.{drop_all}
 use Rattle.std.proofs.lemmas.List.Elements.{All-nil, All-cons, All-head, All-tail}
@@ -9,9 +9,18 @@ use Rattle.m2v_mend.specs.declared.member.Member.{Member}
 use Rattle.m2v_mend.specs.Kept.{pieces_of}
 use Rattle.m2v_mend.specs.Members.{IsMember}
 use Rattle.m2v_mend.specs.Copying.{IsCopy, AreCopies}
+use Rattle.m2v_mend.proofs.EditLaws.{lowered_by_nothing}
 use Rattle.m2v_mend.proofs.Parting.{next_left}
 
--- ---- one piece
+-- ---- pieces as they are
+
+own_copy : (m : Member) → IsMember m → IsCopy true 0 m.piece m.piece
+own_copy m is = let same = lowered_by_nothing 0 m.piece refl is.units in λ header. record { bytes = same.bytes; units = same.units; place = λ on. refl; end = refl }
+
+-- pieces are copies of themselves behind a strand that has a byte, where they are lowered by nothing
+pub own_copies : (ms : List Member) → All IsMember ms → AreCopies true 0 (pieces_of ms) (pieces_of ms)
+own_copies [] all = tt
+own_copies (m ∷ ms) all = (own_copy m (All-head IsMember m ms all), own_copies ms (All-tail IsMember m ms all))
 
 -- ---- one piece more
 

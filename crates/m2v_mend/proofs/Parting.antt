@@ -1,7 +1,7 @@
 -- How the pieces of a span are parted.
-use Rattle.std.proofs.Common.{◌≡◌, ℕ, zero, suc, ◌+◌, ◌-◌, ◌<◌, ◌≤◌, true, false, List, [], ◌∷◌, ◌++◌, length, take, drop, get_or, refl, sym, ap, subst, ◌∙◌, append_assoc, append-nil, arith}
+use Rattle.std.proofs.Common.{◌≡◌, ℕ, zero, suc, ◌+◌, ◌-◌, ◌<◌, ◌≤◌, true, false, List, [], ◌∷◌, ◌++◌, length, take, drop, map, get_or, refl, sym, ap, subst, ◌∙◌, append_assoc, append-nil, arith}
 use Rattle.std.specs.Prelude.{All}
-use Rattle.std.proofs.lemmas.List.{length-drop, take_more, get_or-drop, drop_all, drop_more, take-append-drop}
+use Rattle.std.proofs.lemmas.List.{length-drop, length-map, get_or-map, take_more, get_or-drop, drop_all, drop_more, take-append-drop}
 use Rattle.std.proofs.lemmas.List.Elements.{All-get_or}
 use Rattle.m2v_decode.specs.m2v_dec_piece.declared.answer.Piece.{Piece}
 use Rattle.m2v_decode.specs.Decoding.{whole_of}
@@ -24,6 +24,21 @@ next_left {A} xs i x lt is = drop_more xs i x lt ∙ ap (λ (y : A). y ∷ drop 
 
 pub next_parts : {A : Type 0} (xs : List A) (i : ℕ) (x : A) → i < length xs → x ≡ get_or xs i x → xs ≡ take i xs ++ x ∷ drop (i + 1) xs
 next_parts {A} xs i x lt is = sym (take-append-drop i xs) ∙ ap (λ (l : List A). take i xs ++ l) (next_left xs i x lt is)
+
+-- ---- the same of what elements have
+
+pub in_map : {A B : Type 0} (f : A → B) (xs : List A) (i : ℕ) → i < length xs → i < length (map f xs)
+in_map f xs i lt = omega (arith, lt, length-map xs f)
+
+pub next_map : {A B : Type 0} (f : A → B) (xs : List A) (i : ℕ) (x : A) → i < length xs → x ≡ get_or xs i x → f x ≡ get_or (map f xs) i (f x)
+next_map f xs i x lt is = ap f is ∙ sym (get_or-map f xs i x (f x) lt)
+
+pub last_map : {A B : Type 0} (f : A → B) (xs : List A) (x : A) → 0 < length xs → x ≡ get_or xs (length xs - 1) x → f x ≡ get_or (map f xs) (length (map f xs) - 1) (f x)
+last_map f xs x some is =
+    next_map f xs (length xs - 1) x (omega (arith, some)) is ∙ ap (λ (n : ℕ). get_or (map f xs) (n - 1) (f x)) (sym (length-map xs f))
+
+pub all_next : {A B : Type 0} (f : A → B) (P : B → Type 0) (xs : List A) (i : ℕ) (x : A) → i < length xs → x ≡ get_or xs i x → All P (map f xs) → P (f x)
+all_next f P xs i x lt is all = subst P (sym (next_map f xs i x lt is)) (All-get_or P (map f xs) i (f x) (in_map f xs i lt) all)
 
 -- ---- the bytes of pieces, and where they end, one by one
 

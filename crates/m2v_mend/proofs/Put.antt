@@ -90,15 +90,19 @@ without_made written listed m x y new frames bytes is f n w shape =
 pub behind_told : (written : List ℕ) (listed : List Gap) (m : Mending) (s : Span) (b : Behind) (x y new : Mender) (frames bytes : ℕ) → IsMade written listed m x → frames ≡ frames_shown (strands_of m) → bytes ≡ length (joined (strands_of m))
     → PutOrNot written listed m s b x y → (b ≡ behinds.Put → ⊥) → new ≡ record y { strand = None; low = 0; frames = frames; bytes = bytes } → BehindTold written listed m s b new
 behind_told written listed m s behinds.Put x y new frames bytes is f n told not_put shape = absurd (not_put refl)
-behind_told written listed m s behinds.NotUnderWay x y new frames bytes is f n told not_put shape = (told.0, told.1, without_made written listed m x y new frames bytes is f n told.2 shape)
-behind_told written listed m s (behinds.Refused g) x y new frames bytes is f n told not_put shape = (told.0, told.1, without_made written listed m x y new frames bytes is f n told.2 shape)
-behind_told written listed m s (behinds.Long g) x y new frames bytes is f n told not_put shape = absurd told
+behind_told written listed m s (behinds.NotUnderWay z) x y new frames bytes is f n told not_put shape = (told.0, told.1, without_made written listed m x y new frames bytes is f n told.2 shape)
+behind_told written listed m s (behinds.Refused g z) x y new frames bytes is f n told not_put shape = (told.0, told.1, without_made written listed m x y new frames bytes is f n told.2 shape)
+behind_told written listed m s (behinds.Long g z) x y new frames bytes is f n told not_put shape = absurd told
 
 pub long_by : (b : Behind) (long : Bool) → IsNotLong b → long ≡ false → IsLong b long
 long_by behinds.Put long n e = tt
-long_by behinds.NotUnderWay long n e = e
-long_by (behinds.Refused f) long n e = e
-long_by (behinds.Long f) long n e = absurd n
+long_by (behinds.NotUnderWay x) long n e = e
+long_by (behinds.Refused f x) long n e = e
+long_by (behinds.Long f x) long n e = absurd n
+
+-- the span is given back, with what is known of it
+pub given_back : (P : SpanParts → Type 0) (x y : SpanParts) → y ≡ x → P x → P y
+given_back P x y same h = subst P (sym same) h
 
 -- ---- a strand begins, or the span is left out
 

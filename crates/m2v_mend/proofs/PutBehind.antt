@@ -35,6 +35,7 @@ use Rattle.m2v_mend.specs.Kept.{pieces_of}
 use Rattle.m2v_mend.specs.Members.{IsMember, IsSpan, IsOfStretch}
 use Rattle.m2v_mend.specs.Putting.{CanBePut, IsUnderWay, PutTold}
 use Rattle.m2v_mend.specs.Copying.{AreCopies, fault_by}
+use Rattle.m2v_law_seam.specs.Reading.{CanGoBehind}
 use Rattle.m2v_mend.proofs.Showing.{read_is}
 use Rattle.m2v_mend.proofs.Closing.{all_bytes}
 use Rattle.m2v_mend.proofs.CopyLaws.{members_sound}
@@ -116,6 +117,10 @@ course_agrees (b ∷ bytes) s opening first qs at under anchors stands c =
 
 -- ---- what is told
 
+-- what is told of pieces behind all bytes for which a strand stands
+abbrev pub ToldBehind : StrandState → Option Sequence → List Piece → Option Refusal → StrandState → Type 0
+ToldBehind s first qs o z = (bytes : List ℕ) → (at : IsAt s bytes) → CanGoBehind bytes (wholes_of qs) → Told at.decoder s first bytes qs o z
+
 pub kept_told : (s z : StrandState) (first : Option Sequence) (bytes : List ℕ) (low : ℕ) (sp : Span) (old new qs : List Piece) (at : IsAt s bytes) → GoBehind bytes low sp qs → Told at.decoder s first bytes qs None z → z.opening ≡ s.opening → new ≡ old ++ qs
     → PutTold s.opening first bytes low sp old new None z
 kept_told s z first bytes low sp old new qs at g t opening is =
@@ -154,6 +159,10 @@ begun_is (b ∷ bytes) n e = elim (cases_Bool (nat_eq n 0)) [
   | inl on ↦ absurd (omega (arith, e, eqb-true n 0 on))
   | inr off ↦ ap not off
 ]
+
+pub byte_there : (bytes : List ℕ) (n : ℕ) → n ≡ length bytes → 0 < n → true ≡ has_byte bytes
+byte_there [] n e some = absurd (omega (arith, e, some))
+byte_there (b ∷ bytes) n e some = refl
 
 pub span_behind : (parts : SpanParts) (bytes : List ℕ) (low : ℕ) (begun : Bool) (sp : Span) (ms : List Member) (qs ds : List Piece) → All IsMember parts.members.items → ms ≡ parts.members.items → ds ≡ qs → AreCopies begun low (pieces_of ms) qs → All IsSoundPiece qs
     → begun ≡ has_byte bytes → IsSpan sp parts → parts.long ≡ false → IsOfStretch sp → CanBePut bytes sp.pieces → GoBehind bytes low sp ds

@@ -15,8 +15,7 @@ pub record IsUpToZeros (bytes : List ℕ) (n : ℕ) : Type 0 where
 
 -- pieces without what they tell
 abbrev pub pieces_of : List Member → List Piece
-pieces_of [] = []
-pieces_of (m ∷ ms) = m.piece ∷ pieces_of ms
+pieces_of ms = map (λ m. m.piece) ms
 
 -- their bytes
 abbrev pub bodies : List Member → List (List ℕ)

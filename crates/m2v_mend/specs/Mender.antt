@@ -7,6 +7,7 @@ use Rattle.m2v_law_seam.specs.Strands.{read_of, first_in, is_short}
 use Rattle.m2v_law_seam.specs.Faults.{fault_alone, fault_of}
 use Rattle.m2v_law_seam.specs.Mending.{Gap, Mending, strands_of, first_kept, groups_behind, low_of_span, goes_behind, put_behind}
 use Rattle.m2v_mend.specs.declared.mender.Mender.{Mender}
+use Rattle.m2v_mend.specs.declared.parts.SpanParts.{SpanParts}
 use Rattle.m2v_mend.specs.declared.mender.Behind.{Behind}
 use Rattle.m2v_mend.specs.declared.mender.Behind.TheVariants as behinds
 use Rattle.m2v_mend.specs.Making.{IsMade, fault_told}
@@ -29,6 +30,13 @@ pub record WentOn (s : Span) (strand : StrandState) (low : ℕ) (old new : Mende
   pub groups_is : groups ≡ groups_behind old.groups s
   pub is : new ≡ record old { strand = Some strand; first = first_kept old.first own; low = low; groups = groups }
 
+-- a span that isn't put behind a strand is given back as it was
+abbrev pub GivesBack : SpanParts → Behind → Type 0
+GivesBack x behinds.Put = Unit {0}
+GivesBack x (behinds.NotUnderWay y) = y ≡ x
+GivesBack x (behinds.Refused f y) = y ≡ x
+GivesBack x (behinds.Long f y) = y ≡ x
+
 -- why a span isn't put behind a strand
 abbrev pub IsWhyNot : Mending → Span → Option Fault → Type 0
 IsWhyNot m s None = fault_of m.strand (low_of_span m s) m.first s ≡ fault_alone m.first s
@@ -42,29 +50,29 @@ pub record IsWithout (old new : Mender) : Type 0 where
 -- a span was put behind the strand that was under way, or it wasn't, and no strand is
 abbrev pub PutOrNot : List ℕ → List Gap → Mending → Span → Behind → Mender → Mender → Type 0
 PutOrNot written listed m s behinds.Put old new = (goes_behind m s ≡ true) × IsMade written listed (put_behind m s) new
-PutOrNot written listed m s behinds.NotUnderWay old new = (goes_behind m s ≡ false) × IsWhyNot m s None × IsWithout old new
-PutOrNot written listed m s (behinds.Refused f) old new = (goes_behind m s ≡ false) × IsWhyNot m s (Some f) × IsWithout old new
-PutOrNot written listed m s (behinds.Long f) old new = ⊥
+PutOrNot written listed m s (behinds.NotUnderWay x) old new = (goes_behind m s ≡ false) × IsWhyNot m s None × IsWithout old new
+PutOrNot written listed m s (behinds.Refused f x) old new = (goes_behind m s ≡ false) × IsWhyNot m s (Some f) × IsWithout old new
+PutOrNot written listed m s (behinds.Long f x) old new = ⊥
 
 -- the same, where the strand has ended if it wasn't put there
 abbrev pub BehindTold : List ℕ → List Gap → Mending → Span → Behind → Mender → Type 0
 BehindTold written listed m s behinds.Put new = (goes_behind m s ≡ true) × IsMade written listed (put_behind m s) new
-BehindTold written listed m s behinds.NotUnderWay new =
+BehindTold written listed m s (behinds.NotUnderWay x) new =
     (goes_behind m s ≡ false) × IsWhyNot m s None × IsMade written listed (over m) new
-BehindTold written listed m s (behinds.Refused f) new =
+BehindTold written listed m s (behinds.Refused f x) new =
     (goes_behind m s ≡ false) × IsWhyNot m s (Some f) × IsMade written listed (over m) new
-BehindTold written listed m s (behinds.Long f) new =
+BehindTold written listed m s (behinds.Long f x) new =
     (is_short s ≡ false) × (goes_behind m s ≡ false) × IsWhyNot m s (Some f) × IsMade written listed (over m) new
 
 -- it passes a limit, which no other span does that isn't put
 abbrev pub IsLong : Behind → Bool → Type 0
 IsLong behinds.Put long = Unit {0}
-IsLong behinds.NotUnderWay long = long ≡ false
-IsLong (behinds.Refused f) long = long ≡ false
-IsLong (behinds.Long f) long = long ≡ true
+IsLong (behinds.NotUnderWay x) long = long ≡ false
+IsLong (behinds.Refused f x) long = long ≡ false
+IsLong (behinds.Long f x) long = long ≡ true
 
 abbrev pub IsNotLong : Behind → Type 0
 IsNotLong behinds.Put = Unit {0}
-IsNotLong behinds.NotUnderWay = Unit {0}
-IsNotLong (behinds.Refused f) = Unit {0}
-IsNotLong (behinds.Long f) = ⊥
+IsNotLong (behinds.NotUnderWay x) = Unit {0}
+IsNotLong (behinds.Refused f x) = Unit {0}
+IsNotLong (behinds.Long f x) = ⊥

@@ -1,5 +1,6 @@
 -- What becomes of a span: it is put behind a strand, or begins another one, or neither.
 use Rattle.std.specs.Prelude.{◌≡◌, ℕ, Bool, true, false, List, [], ◌∷◌, ◌++◌, length, Option, Some, None, Result, Ok, Err, not, nat_eq, take}
+use Rattle.std.specs.Option.{option_map}
 use Rattle.m2v_model.specs.declared.state.Sequence.{Sequence}
 use Rattle.m2v_model.specs.Units.{joined}
 use Rattle.m2v_decode.specs.m2v_dec_piece.declared.answer.Piece.{Piece}
@@ -10,6 +11,7 @@ use Rattle.m2v_law_seam.specs.Strands.{is_strand}
 use Rattle.m2v_law_seam.specs.Faults.{fault_behind, fault_alone}
 use Rattle.m2v_law_seam.specs.Mending.{begins_strand}
 use Rattle.m2v_law_seam.specs.Reading.{BeginsOnePiece}
+use Rattle.m2v_mend.specs.declared.behind.NotPut.{NotPut}
 use Rattle.m2v_mend.specs.declared.begin.Begun.{Begun}
 use Rattle.m2v_mend.specs.declared.begin.Leading.{Leading}
 use Rattle.m2v_mend.specs.Strand.{StrandState, wholes_of, IsAt}
@@ -42,6 +44,10 @@ PutTold opening first bytes low s old new (Some f) z =
     (is_strand opening first (bytes ++ text_behind bytes low s.pieces) ≡ false)
     × (fault_behind s (bytes ++ text_behind bytes low s.pieces) ≡ (f.kind, f.place))
     × (new ≡ old)
+
+-- the fault of a span that wasn't put
+abbrev pub why_not : Option NotPut → Option Fault
+why_not o = option_map (λ n. n.fault) o
 
 -- ---- a strand that begins
 

@@ -1,5 +1,5 @@
 //! Copies of the pieces of a span, as they are put behind a strand.
-ghost use Rattle.std.specs.Prelude.{◌≡◌, All, IfOk, OnOk};
+ghost use Rattle.std.specs.Prelude.{◌≡◌, All, IfOk, OnOk, map};
 ghost use Rattle.m2v_decode.specs.m2v_dec_piece.Sound.{IsSoundPiece};
 ghost use Rattle.m2v_decode.specs.Decoding.{whole_of};
 ghost use Rattle.m2v_law_group.specs.Groups.{has_sequence};
@@ -12,7 +12,7 @@ ghost use Rattle.m2v_mend.specs.Strand.{bytes_in};
 
 use crate::Memory;
 use crate::edits::{from_sequence_on, lower};
-use crate::member::Member;
+use crate::member::{HasPiece, Member};
 use crate::opening::copy;
 use crate::sums::sum;
 use m2v_decode::Piece;
@@ -67,12 +67,12 @@ pub(crate) fn copies(
 }
 
 /// How many bytes pieces have.
-pub(crate) fn bytes_of(pieces: &[Piece]) -> Result<u64, Memory>
-    ensures { IfOk result (λ n. n ≡ bytes_in pieces.now) }
+pub(crate) fn bytes_of<P: HasPiece>(pieces: &[P]) -> Result<u64, Memory>
+    ensures { IfOk result (λ n. n ≡ bytes_in (map P.own_piece pieces.now)) }
 {
     let mut total = 0;
     for piece in pieces {
-        total = sum(total, piece.length)?;
+        total = sum(total, piece.as_piece().length)?;
     }
     Ok(total)
 }

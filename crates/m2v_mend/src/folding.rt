@@ -56,19 +56,21 @@ impl Folding {
     }
 
     /// A span is whole.
-    fn finish(&mut self, alloc: Global, parts: &SpanParts) -> Result<(), Memory>
+    fn finish(&mut self, alloc: Global, parts: SpanParts) -> Result<(), Memory>
         requires ready { StrandReady self.old.mender.strand }
-        requires members { All IsMember parts.now.members.items }
+        requires members { All IsMember parts.members.items }
         ensures told { OnOk result ((written : List ℕ) (listed : List mending.Gap) (t : Tally)
-            (s : Span) → IsTold written listed t self.old → IsSpan s parts.now → IsOfStretch s
+            (s : Span) → IsTold written listed t self.old → IsSpan s parts → IsOfStretch s
             → CanBeNext t.made.strand s.pieces → IsTold written listed (with_one t s) self.new) }
         ensures ready { OnOk result (StrandReady self.new.mender.strand) }
         ensures heads { OnOk result (SameHeads self.old self.new) }
         ensures parts { OnOk result (self.new.parts ≡ self.old.parts) }
     {
+        let groups = groups_with(self.groups, &parts)?;
+        let pictures = sum(self.pictures, parts.pictures)?;
         self.mender.span(alloc, parts)?;
-        self.groups = groups_with(self.groups, parts)?;
-        self.pictures = sum(self.pictures, parts.pictures)?;
+        self.groups = groups;
+        self.pictures = pictures;
         Ok(())
     }
 
@@ -110,7 +112,7 @@ impl Folding {
     {
         match self.parts.take() {
             None => Ok(()),
-            Some(parts) => self.finish(alloc, &parts),
+            Some(parts) => self.finish(alloc, parts),
         }
     }
 
@@ -128,7 +130,7 @@ impl Folding {
             None => self.begin_span(alloc, member),
             Some(parts) => {
                 if begins {
-                    self.finish(alloc, &parts)?;
+                    self.finish(alloc, parts)?;
                     return self.begin_span(alloc, member);
                 }
                 self.grow_span(parts, member)

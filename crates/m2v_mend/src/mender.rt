@@ -4,11 +4,11 @@ ghost use Rattle.m2v_model.specs.Units.{joined};
 ghost use Rattle.m2v_law_seam.specs.Spans.{Span};
 ghost use Rattle.m2v_law_seam.specs.Faults.{fault_of};
 ghost use Rattle.m2v_law_seam.specs.Mending as mending;
-ghost use Rattle.m2v_law_seam.specs.Mending.{Mending, nothing_yet, strands_of, frames_shown, low_of_span, goes_behind, with_gap, gaps_leading, strand_begun, left_out, with_span, strand_ended};
+ghost use Rattle.m2v_law_seam.specs.Mending.{Mending, nothing_yet, groups_behind, strands_of, frames_shown, low_of_span, goes_behind, with_gap, gaps_leading, strand_begun, left_out, with_span, strand_ended};
 ghost use Rattle.m2v_mend.specs.Members.{IsMember, IsOfStretch, IsSpan};
 ghost use Rattle.m2v_mend.specs.Putting.{BeginTold, IsLeading};
 ghost use Rattle.m2v_mend.specs.Making.{StrandReady, IsMade, CanBeNext, fault_told, gap_told};
-ghost use Rattle.m2v_mend.specs.Mender.{over, IsFirstGroup, WentOn, PutOrNot, BehindTold, IsWhyNot, IsLong, IsNotLong};
+ghost use Rattle.m2v_mend.specs.Mender.{over, GivesBack, IsFirstGroup, WentOn, PutOrNot, BehindTold, IsWhyNot, IsLong, IsNotLong};
 ghost use Rattle.m2v_mend.specs.Strand.{IsReady};
 
 use crate::Memory;
@@ -49,17 +49,17 @@ pub struct Mender {
     pub fault: Option<Fault>,
 }
 
-/// How a span stands to the strand that was under way.
-#[derive(Clone, Copy, Debug, PartialEq, Eq)]
+/// How a span stands to the strand that was under way, and the span, where it wasn't put there.
+#[derive(Drop)]
 pub enum Behind {
     /// It was put behind it.
     Put,
     /// No strand is under way for it.
-    NotUnderWay,
+    NotUnderWay(SpanParts),
     /// It doesn't go there.
-    Refused(Fault),
+    Refused(Fault, SpanParts),
     /// It passes a limit.
-    Long(Fault),
+    Long(Fault, SpanParts),
 }
 
 /// The first piece of a span has a group header.
@@ -184,65 +184,67 @@ impl Mender {
         Ok(())
     }
 
-    /// A span went behind a strand, which is under way with it.
-    fn go_on(&mut self, strand: Strand, low: u32, parts: &SpanParts) -> Result<(), Memory>
+    /// A span went behind a strand, which is under way with it; so many groups were kept then.
+    fn go_on(&mut self, strand: Strand, low: u32, groups: u64)
         requires ready { IsReady strand }
-        ensures told { OnOk result ((s : Span) → IsSpan s parts.now
-            → WentOn s strand low self.old self.new) }
-        ensures ready { OnOk result (StrandReady self.new.strand) }
+        ensures told { (s : Span) → groups ≡ groups_behind self.old.groups s
+            → WentOn s strand low self.old self.new }
+        ensures ready { StrandReady self.new.strand }
     {
         self.first = first_with(self.first, strand.first());
-        self.groups = groups_with(self.groups, parts)?;
+        self.groups = groups;
         self.low = low;
         self.strand = Some(strand);
-        Ok(())
     }
 
     /// Puts a span behind the strand that is under way, where one is, and it is one with it. Else no strand is.
-    fn put(&mut self, alloc: Global, parts: &SpanParts) -> Result<Behind, Memory>
+    fn put(&mut self, alloc: Global, parts: SpanParts) -> Result<Behind, Memory>
         requires ready { StrandReady self.old.strand }
-        requires members { All IsMember parts.now.members.items }
-        requires short { parts.now.long ≡ false }
+        requires members { All IsMember parts.members.items }
+        requires short { parts.long ≡ false }
         ensures told { IfOk result (λ b. (written : List ℕ) (listed : List mending.Gap)
-            (m : Mending) (s : Span) → IsMade written listed m self.old → IsSpan s parts.now
+            (m : Mending) (s : Span) → IsMade written listed m self.old → IsSpan s parts
             → IsOfStretch s → CanBeNext m.strand s.pieces
             → PutOrNot written listed m s b self.old self.new) }
         ensures ready { OnOk result (StrandReady self.new.strand) }
         ensures short { IfOk result IsNotLong }
+        ensures parts { IfOk result (GivesBack parts) }
     {
         let Some(mut strand) = self.strand.take() else {
-            return Ok(Behind::NotUnderWay);
+            return Ok(Behind::NotUnderWay(parts));
         };
-        if strand.bytes() == 0 && !begins_with_header(parts) {
-            return Ok(Behind::NotUnderWay);
+        if strand.bytes() == 0 && !begins_with_header(&parts) {
+            return Ok(Behind::NotUnderWay(parts));
         }
-        let low = lowered_behind(self.low, begins_with_group(parts));
+        let low = lowered_behind(self.low, begins_with_group(&parts));
+        let groups = groups_with(self.groups, &parts)?;
         match put_behind(alloc, &mut strand, &self.first, low, parts, &mut self.out)? {
-            Some(fault) => Ok(Behind::Refused(fault)),
+            Some(not) => Ok(Behind::Refused(not.fault, not.parts)),
             None => {
-                self.go_on(strand, low, parts)?;
+                self.go_on(strand, low, groups);
                 Ok(Behind::Put)
             }
         }
     }
 
     /// The same, where the span is within the limits. Where it wasn't put there, the strand has ended.
-    fn behind(&mut self, alloc: Global, parts: &SpanParts) -> Result<Behind, Memory>
+    fn behind(&mut self, alloc: Global, parts: SpanParts) -> Result<Behind, Memory>
         requires ready { StrandReady self.old.strand }
-        requires members { All IsMember parts.now.members.items }
+        requires members { All IsMember parts.members.items }
         ensures told { IfOk result (λ b. (written : List ℕ) (listed : List mending.Gap)
-            (m : Mending) (s : Span) → IsMade written listed m self.old → IsSpan s parts.now
+            (m : Mending) (s : Span) → IsMade written listed m self.old → IsSpan s parts
             → IsOfStretch s → CanBeNext m.strand s.pieces
             → BehindTold written listed m s b self.new) }
         ensures ready { OnOk result (StrandReady self.new.strand) }
-        ensures long { IfOk result (λ b. IsLong b parts.now.long) }
+        ensures long { IfOk result (λ b. IsLong b parts.long) }
+        ensures parts { IfOk result (GivesBack parts) }
     {
         let frames = self.frames_shown()?;
         let bytes = self.bytes_kept()?;
         if parts.long {
             let fault = fault_at(FaultKind::Unsupported, parts.place)?;
             self.end_with(frames, bytes);
-            return Ok(Behind::Long(fault));
+            return Ok(Behind::Long(fault, parts));
         }
         match self.put(alloc, parts)? {
             Behind::Put => Ok(Behind::Put),
@@ -307,7 +309,8 @@ impl Mender {
         ensures ready { OnOk result (StrandReady self.new.strand) }
     {
         self.leave_leading(parts.place, &begun.leading)?;
-        self.go_on(begun.strand, begun.low, parts)?;
+        let groups = groups_with(self.groups, parts)?;
+        self.go_on(begun.strand, begun.low, groups);
         self.out.append(pieces)?;
         Ok(())
     }
@@ -341,19 +344,19 @@ impl Mender {
     ///
     /// # Errors
     /// Want of memory. No call may follow then.
-    pub(crate) fn span(&mut self, alloc: Global, parts: &SpanParts) -> Result<(), Memory>
+    pub(crate) fn span(&mut self, alloc: Global, parts: SpanParts) -> Result<(), Memory>
         requires ready { StrandReady self.old.strand }
-        requires members { All IsMember parts.now.members.items }
+        requires members { All IsMember parts.members.items }
         ensures told { OnOk result ((written : List ℕ) (listed : List mending.Gap) (m : Mending)
-            (s : Span) → IsMade written listed m self.old → IsSpan s parts.now → IsOfStretch s
+            (s : Span) → IsMade written listed m self.old → IsSpan s parts → IsOfStretch s
             → CanBeNext m.strand s.pieces → IsMade written listed (with_span m s) self.new) }
         ensures ready { OnOk result (StrandReady self.new.strand) }
     {
         match self.behind(alloc, parts)? {
             Behind::Put => {}
-            Behind::Long(fault) => self.leave_out(parts, fault)?,
-            Behind::Refused(fault) => self.elsewhere(alloc, parts, Some(fault))?,
-            Behind::NotUnderWay => self.elsewhere(alloc, parts, None)?,
+            Behind::Long(fault, parts) => self.leave_out(&parts, fault)?,
+            Behind::Refused(fault, parts) => self.elsewhere(alloc, &parts, Some(fault))?,
+            Behind::NotUnderWay(parts) => self.elsewhere(alloc, &parts, None)?,
         }
         Ok(())
     }

@@ -132,6 +132,23 @@ impl SpanParts {
         })
     }
 
+    /// Its pieces alone.
+    pub(crate) fn into_members(self) -> Vec<Member>
+        ensures { result ≡ self.members }
+    {
+        let Self {
+            place: _,
+            head: _,
+            members,
+            bytes: _,
+            pictures: _,
+            kept: _,
+            entry: _,
+            long: _,
+        } = self;
+        members
+    }
+
     /// Keeps one piece more, where the span stays within the limits; else none.
     fn keep(&mut self, member: Member, kept: u64, long: bool) -> Result<(), Memory>
         requires long { long ≡ false → self.old.long ≡ false }

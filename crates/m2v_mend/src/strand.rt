@@ -1,5 +1,5 @@
 //! A strand as it is read.
-ghost use Rattle.std.specs.Prelude.{◌≡◌, ◌+◌, ◌≤◌, ◌<◌, ◌^◌, true, false, List, [], ℕ, All, Some, None, IfOk, length};
+ghost use Rattle.std.specs.Prelude.{◌≡◌, ◌+◌, ◌≤◌, ◌<◌, ◌^◌, true, false, List, [], ℕ, All, Some, None, IfOk, length, map};
 ghost use Rattle.m2v_law_seam.specs.Strands.{read_of, first_in, frames_in};
 ghost use Rattle.m2v_law_seam.specs.Reading.{CanGoBehind};
 ghost use Rattle.m2v_decode.specs.m2v_dec_piece.Sound.{IsSoundPiece};
@@ -8,6 +8,7 @@ ghost use Rattle.m2v_decode.specs.Reading.{Follows};
 ghost use Rattle.m2v_mend.specs.Strand.{nothing_of, IsReady, StepTold, WalkTold, bytes_in, wholes_of, refusal_of, IsAt, Told};
 
 use crate::agreeing::agrees;
+use crate::member::HasPiece;
 use crate::refusal::Refusal;
 use crate::standing::Standing;
 use crate::tail::is_open;
@@ -124,17 +125,21 @@ impl Strand {
     }
 
     /// Reads pieces behind what was read, up to the first fault.
-    fn pieces(&mut self, alloc: Global, pieces: &[Piece]) -> Result<Option<Fault>, Memory>
+    fn pieces<P: HasPiece>(
+        &mut self,
+        alloc: Global,
+        pieces: &[P],
+    ) -> Result<Option<Fault>, Memory>
         requires ready { IsReady self.old }
-        requires pieces { All IsSoundPiece pieces.now }
-        requires counted { self.old.bytes + bytes_in pieces.now ≤ 2 ^ 60 }
+        requires pieces { All IsSoundPiece (map P.own_piece pieces.now) }
+        requires counted { self.old.bytes + bytes_in (map P.own_piece pieces.now) ≤ 2 ^ 60 }
         ensures told { IfOk result (λ o. (d : Decoding) → Follows self.old.reading d
-            → WalkTold d self.old pieces.now o self.new) }
+            → WalkTold d self.old (map P.own_piece pieces.now) o self.new) }
         ensures ready { IfOk result (λ o. o ≡ None → IsReady self.new) }
         ensures opening { IfOk result (λ o. o ≡ None → self.new.opening ≡ self.old.opening) }
     {
         for piece in pieces {
-            if let Some(fault) = self.piece(alloc, piece)? {
+            if let Some(fault) = self.piece(alloc, piece.as_piece())? {
                 return Ok(Some(fault));
             }
         }
@@ -171,24 +176,25 @@ impl Strand {
     ///
     /// # Errors
     /// Want of memory. No call may follow then.
-    pub fn read(
+    pub(crate) fn read<P: HasPiece>(
         &mut self,
         alloc: Global,
         first: &Option<Sequence>,
-        pieces: &[Piece],
+        pieces: &[P],
     ) -> Result<Option<Refusal>, Memory>
         requires ready { IsReady self.old }
-        requires pieces { All IsSoundPiece pieces.now }
-        requires counted { self.old.bytes + bytes_in pieces.now ≤ 2 ^ 60 }
+        requires pieces { All IsSoundPiece (map P.own_piece pieces.now) }
+        requires counted { self.old.bytes + bytes_in (map P.own_piece pieces.now) ≤ 2 ^ 60 }
         ensures told { IfOk result (λ o. (bytes : List ℕ) → (at : IsAt self.old bytes)
-            → CanGoBehind bytes (wholes_of pieces.now)
-            → Told at.decoder self.old first.now bytes pieces.now o self.new) }
+            → CanGoBehind bytes (wholes_of (map P.own_piece pieces.now)) → Told at.decoder
+            self.old first.now bytes (map P.own_piece pieces.now) o self.new) }
         ensures ready { IfOk result (λ o. o ≡ None → IsReady self.new) }
         ensures opening { IfOk result (λ o. o ≡ None → self.new.opening ≡ self.old.opening) }
     {
         let Some(last) = pieces.last() else {
             return Ok(None);
         };
+        let last = last.as_piece();
         if is_open(last) {
             return Ok(Some(Refusal::Open));
         }

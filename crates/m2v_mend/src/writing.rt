@@ -29,7 +29,8 @@ pub(crate) fn put<K: Sink>(bytes: &[u8], output: &mut K) -> Result<(), MendError
 }
 
 /// Writes zero bytes, by way of a buffer.
-fn put_zeros<K: Sink>(zeros: u64, output: &mut K) -> Result<(), MendError>
+#[inline(never)]
+fn put_buffered<K: Sink>(zeros: u64, output: &mut K) -> Result<(), MendError>
     requires output { IsTrue (K.ready output.old) }
     ensures grown { OnOk result (Grows (K.held output.old) (replicate zeros 0)
         (K.held output.new)) }
@@ -45,6 +46,21 @@ fn put_zeros<K: Sink>(zeros: u64, output: &mut K) -> Result<(), MendError>
         left -= n;
     }
     Ok(())
+}
+
+/// Writes zero bytes. Most pieces have none that aren't kept, and want no buffer.
+fn put_zeros<K: Sink>(zeros: u64, output: &mut K) -> Result<(), MendError>
+    requires output { IsTrue (K.ready output.old) }
+    ensures grown { OnOk result (Grows (K.held output.old) (replicate zeros 0)
+        (K.held output.new)) }
+    ensures err { IfErr result (Cuts (replicate zeros 0)
+        (change K.held K.faults output.old output.new)) }
+    ensures output { SinkStays K.ready K.name K.faults output.old output.new }
+{
+    if zeros == 0 {
+        return Ok(());
+    }
+    put_buffered(zeros, output)
 }
 
 /// Writes the bytes of a piece, the zero bytes that aren't kept among them.

@@ -16,5 +16,6 @@ returns-in_default c = record {
       behind_told written listed m s c.in_ok-behind.behind c.args.self.now c.put.new.self c.end_with-in_default.new.self c.in_ok-frames.frames c.in_ok-bytes.bytes is
       (c.in_ok-frames.ensures written listed m is) (c.in_ok-bytes.ensures written listed m is) (c.in_ok-behind.ensures.told written listed m s is span stretch next) c.in_default.not-Put c.end_with-in_default.ensures;
   ready = subst (λ (x : Mender). StrandReady x.strand) (sym c.end_with-in_default.ensures) tt;
-  long = long_by c.in_ok-behind.behind c.args.parts.now.long c.in_ok-behind.ensures.short c.if-parts.false;
+  parts = c.in_ok-behind.ensures.parts;
+  long = long_by c.in_ok-behind.behind c.args.parts.long c.in_ok-behind.ensures.short c.if-parts.false;
 }

@@ -1,7 +1,7 @@
 use Rattle.std.proofs.Common.{◌-◌, ◌≤◌, replicate}
 use Rattle.m2v_port.specs.Ends.{SinkStays}
 use Rattle.m2v_port.specs.Port.{Grows}
-use Rattle.m2v_mend.proofs.writing.put_zeros.Given as goal
+use Rattle.m2v_mend.proofs.writing.put_buffered.Given as goal
 
 abbrev pub invariant-loop-left : goal.invariant-loop-left
 invariant-loop-left g l = record {
