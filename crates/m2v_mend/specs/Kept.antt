@@ -1,5 +1,5 @@
 -- How many bytes of a span at hand count against the limits.
-use Rattle.std.specs.Prelude.{◌≡◌, ◌≢◌, ℕ, ◌+◌, ◌-◌, ◌<◌, ◌≤◌, List, [], ◌∷◌, length, map, drop, replicate, slice_index, Option, if◌then◌else◌}
+use Rattle.std.specs.Prelude.{◌≡◌, ◌≢◌, ℕ, ◌+◌, ◌-◌, ◌<◌, ◌≤◌, List, length, map, drop, replicate, slice_index, Option, if◌then◌else◌}
 use Rattle.m2v_model.specs.Units.{joined}
 use Rattle.m2v_model.specs.Pieces.{trimmed}
 use Rattle.m2v_decode.specs.m2v_dec_piece.declared.answer.Piece.{Piece}

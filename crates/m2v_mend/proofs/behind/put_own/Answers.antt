@@ -1,6 +1,5 @@
-use Rattle.std.proofs.Common.{refl, sym, ap, subst, ◌∙◌, ◌++◌, List, map, Option, None, Some, true, arith}
+use Rattle.std.proofs.Common.{refl, sym, ap, subst, ◌∙◌, List, Option, None, Some, true, arith}
 use Rattle.std.specs.Prelude.{All}
-use Rattle.m2v_decode.specs.m2v_dec_piece.declared.answer.Piece.{Piece}
 use Rattle.m2v_decode.specs.m2v_dec_piece.Sound.{IsSoundPiece}
 use Rattle.m2v_mend.specs.declared.member.Member.{Member}
 use Rattle.m2v_mend.specs.declared.refusal.Refusal.{Refusal}
