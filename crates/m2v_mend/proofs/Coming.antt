@@ -176,6 +176,15 @@ feed_past c x first left left' start held reading.PictureTooLarge a is le s h =
     (past_as too_large c x first left left' start held s.bytes s.moved (λ rest e st. among_large c.place (left_of c (s.bytes ++ rest)) (subst (λ (at : ℕ). PieceStops at (left_of c (s.bytes ++ rest)) reading.PictureTooLarge) st (s.why rest e))) h)
 feed_past c x first left left' start held reading.Memory a is le s h = subst (λ (b : MendError). IsPast b first left') (sym is) tt
 
+-- where it fails the input has failed
+pub feed_fell : (Input Output : Type 0) (e : DecodeError) (a : MendError) → IsAnswered e a → (e ≡ reading.Read → Input) → Fell Input Output a
+feed_fell Input Output reading.Read a is failed = subst (Fell Input Output) (sym is) (failed refl)
+feed_fell Input Output reading.Write a is failed = absurd is
+feed_fell Input Output (reading.Stream f) a is failed = absurd is
+feed_fell Input Output reading.TooLong a is failed = subst (Fell Input Output) (sym is) tt
+feed_fell Input Output reading.PictureTooLarge a is failed = subst (Fell Input Output) (sym is) tt
+feed_fell Input Output reading.Memory a is failed = subst (Fell Input Output) (sym is) tt
+
 -- where output alone can fail no limit is answered
 pub none_past : (Output : Type 0) (a : MendError) (first left : Option (List ℕ)) → FellOut Output a → IsPast a first left
 none_past Output errors.Read first left fell = absurd fell

@@ -30,7 +30,7 @@ use Rattle.m2v_mend.specs.Feeding.{stretches_at}
 use Rattle.m2v_mend.specs.Gathering.{Tally, nothing_told, behind_stretches, IsTally}
 use Rattle.m2v_mend.specs.Making.{gap_told, fault_first, IsMade}
 use Rattle.m2v_mend.specs.Strand.{wholes_of}
-use Rattle.m2v_mend.specs.Stretching.{Held, Cuts, Fell, FellOut, IsBehind, Comes, IsCut, PastLimit, IsPast, IsAll, kept_told}
+use Rattle.m2v_mend.specs.Stretching.{Held, Cuts, Fell, FellOut, IsBehind, Comes, IsCut, PastLimit, IsPast, IsAll, kept_told, held_before, held_after}
 use Rattle.m2v_mend.proofs.Gathering.{tallied}
 use Rattle.m2v_mend.proofs.Growing.{IsOver, over_ended, done_bytes}
 use Rattle.m2v_mend.proofs.Made.{none_under}
@@ -223,30 +223,31 @@ fell_as A B f errors.PictureTooLarge fell = absurd fell
 fell_as A B f errors.Memory fell = tt
 
 -- counts that rose in the last part rose in the whole
-either_since : {before between now before' between' now' : ℕ} → before ≤ between → before' ≤ between' → (Rose between now ⊎ Rose between' now') → Rose before now ⊎ Rose before' now'
+pub either_since : {before between now before' between' now' : ℕ} → before ≤ between → before' ≤ between' → (Rose between now ⊎ Rose between' now') → Rose before now ⊎ Rose before' now'
 either_since le le' (inl rose) = inl (rose_since le rose)
 either_since le le' (inr rose) = inr (rose_since le' rose)
 
 pub fell_since : (before between now before' between' now' : ℕ) (e : MendError) → before ≤ between → before' ≤ between' → FellOut (Rose between now ⊎ Rose between' now') e → FellOut (Rose before now ⊎ Rose before' now') e
 fell_since before between now before' between' now' e le le' fell = fell_as (Rose between now ⊎ Rose between' now') (Rose before now ⊎ Rose before' now') (either_since le le') e fell
 
+-- an error of any endpoint
+pub fell_so : (Input Output Input' Output' : Type 0) (e : MendError) → (Input → Input') → (Output → Output') → Fell Input Output e → Fell Input' Output' e
+fell_so Input Output Input' Output' errors.Read f g fell = f fell
+fell_so Input Output Input' Output' errors.Write f g fell = g fell
+fell_so Input Output Input' Output' errors.TooLong f g fell = tt
+fell_so Input Output Input' Output' errors.PictureTooLarge f g fell = tt
+fell_so Input Output Input' Output' errors.Memory f g fell = tt
+
 -- ---- the answer of the whole
 
--- what both sinks held, and what they hold
-abbrev before : Change → Change → Held
-before held list = record { text = held.old; list = list.old }
-
-abbrev after : Change → Change → Held
-after held list = record { text = held.new; list = list.new }
-
 -- a prefix was written of each text that begins so
-parts : (left held list : Change) → IsCut left.old left.new (before held list) (after held list) → OfText left (λ text. IsPart text held list)
+parts : (left held list : Change) → IsCut left.old left.new (held_before held list) (held_after held list) → OfText left (λ text. IsPart text held list)
 parts left held list cut = record { bytes = cut.bytes; moved = cut.moved; told = λ rest e. let p = cut.told rest e in record { grown = p.mended; listed = p.listed } }
 
 some_same : (a b : List ℕ) → Some a ≡ Some b → a ≡ b
 some_same a b e = cc
 
-over_by : (l : Limit) (left held list : Change) → PastLimit l left.old left.new → IsCut left.old left.new (before held list) (after held list) → OfText left (λ text. PassesOver text held list l)
+over_by : (l : Limit) (left held list : Change) → PastLimit l left.old left.new → IsCut left.old left.new (held_before held list) (held_after held list) → OfText left (λ text. PassesOver text held list l)
 over_by l left held list past cut = record {
   bytes = cut.bytes;
   moved = cut.moved;
@@ -256,7 +257,7 @@ over_by l left held list past cut = record {
   };
 }
 
-pub fails_by : (left held list : Change) (e : MendError) → Fell left.Failed (held.Failed ⊎ list.Failed) e → IsPast e left.old left.new → IsCut left.old left.new (before held list) (after held list) → Fails left held list e
+pub fails_by : (left held list : Change) (e : MendError) → Fell left.Failed (held.Failed ⊎ list.Failed) e → IsPast e left.old left.new → IsCut left.old left.new (held_before held list) (held_after held list) → Fails left held list e
 fails_by left held list errors.Read fell past cut = (fell, parts left held list cut)
 fails_by left held list errors.Write fell past cut = (fell, parts left held list cut)
 fails_by left held list errors.TooLong fell past cut = over_by too_long left held list past cut
@@ -267,12 +268,12 @@ fails_by left held list errors.Memory fell past cut = parts left held list cut
 pub fails_first : (left : Option (List ℕ)) (held : Held) → IsCut left left held held
 fails_first left held = record { bytes = []; moved = moves_nothing left; told = λ rest e. record { mended = grows_by_none (mended_bytes ([] ++ rest)); listed = grows_by_none (list_of ([] ++ rest)) } }
 
-pub each_fails : {A : Type 0} (left held list : Change) (r : Result A MendError) → IfErr r (FellOut (held.Failed ⊎ list.Failed)) → OnErr r (IsCut left.old left.new (before held list) (after held list)) → IfErr r (Fails left held list)
+pub each_fails : {A : Type 0} (left held list : Change) (r : Result A MendError) → IfErr r (FellOut (held.Failed ⊎ list.Failed)) → OnErr r (IsCut left.old left.new (held_before held list) (held_after held list)) → IfErr r (Fails left held list)
 each_fails left held list (Ok a) fell cut = tt
 each_fails left held list (Err e) fell cut =
     fails_by left held list e (fell_any left.Failed (held.Failed ⊎ list.Failed) e fell) (none_past (held.Failed ⊎ list.Failed) e left.old left.new fell) cut
 
-pub all_mended : (left held list : Change) (a : Answer) → IsAll a left.old left.new (before held list) (after held list) → OfText left (λ text. IsMended text held list a)
+pub all_mended : (left held list : Change) (a : Answer) → IsAll a left.old left.new (held_before held list) (held_after held list) → OfText left (λ text. IsMended text held list a)
 all_mended left held list a all = record { bytes = all.bytes; moved = all.moved; told = λ rest e. let t = all.told rest e in record { fits = t.2; answer = t.0; grown = t.1.text; listed = t.1.list } }
 
 -- ---- where no list is wanted

@@ -1,5 +1,5 @@
 -- Mending under way: what was written, and what is made of what is left of an input.
-use Rattle.std.specs.Prelude.{◌≡◌, ℕ, ◌+◌, ◌-◌, ◌≤◌, nat_eq, if◌then◌else◌, Bool, false, true, List, [], ◌∷◌, ◌++◌, length, take, drop, Option, Some, None}
+use Rattle.std.specs.Prelude.{◌≡◌, ◌⊎◌, ℕ, ◌+◌, ◌-◌, ◌≤◌, nat_eq, if◌then◌else◌, Bool, false, true, List, [], ◌∷◌, ◌++◌, length, take, drop, Option, Some, None}
 use Rattle.m2v_port.specs.Ends.{Change}
 use Rattle.m2v_port.specs.Port.{Moves, Grows, GrowsByPrefix}
 use Rattle.m2v_model.specs.Units.{Units, cut, joined}
@@ -219,6 +219,18 @@ pub record Comes (Holds : Standing) (first left : Option (List ℕ)) (start held
   pub grown : HaveGrown start written listed held
   pub told : (rest : List ℕ) → left ≡ Some rest → Holds (bytes ++ rest) written listed rest
 
+-- what both sinks held, and what they hold
+abbrev pub held_before : Change → Change → Held
+held_before output list = record { text = output.old; list = list.old }
+
+abbrev pub held_after : Change → Change → Held
+held_after output list = record { text = output.new; list = list.new }
+
+-- where this held of a text before, that holds then
+abbrev pub Leads : Standing → Standing → Change → Change → Change → Type 0
+Leads Before After input output list =
+    (first : Option (List ℕ)) (start : Held) → Comes Before first input.old start (held_before output list) → Comes After first input.new start (held_after output list)
+
 -- a prefix of the mended text was written, and one of its list
 pub record IsCut (first left : Option (List ℕ)) (start held : Held) : Type 0 where
   pub bytes : List ℕ
@@ -251,3 +263,10 @@ IsPast errors.Write first left = Unit {0}
 IsPast errors.TooLong first left = PastLimit too_long first left
 IsPast errors.PictureTooLarge first left = PastLimit too_large first left
 IsPast errors.Memory first left = Unit {0}
+
+-- Why it ends before the end of the input, where this held of a text before: an endpoint failed, a limit is passed or memory ran
+-- out, with a prefix of the mended text on output, and one of its list.
+pub record Stops (Before : Standing) (input output list : Change) (e : MendError) : Type 0 where
+  pub fell : Fell input.Failed (output.Failed ⊎ list.Failed) e
+  pub cut : (first : Option (List ℕ)) (start : Held) → Comes Before first input.old start (held_before output list) → IsCut first input.new start (held_after output list)
+  pub past : (first : Option (List ℕ)) (start : Held) → Comes Before first input.old start (held_before output list) → IsPast e first input.new

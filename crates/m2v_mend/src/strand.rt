@@ -125,11 +125,7 @@ impl Strand {
     }
 
     /// Reads pieces behind what was read, up to the first fault.
-    fn pieces<P: HasPiece>(
-        &mut self,
-        alloc: Global,
-        pieces: &[P],
-    ) -> Result<Option<Fault>, Memory>
+    fn pieces<P: HasPiece>(&mut self, alloc: Global, pieces: &[P]) -> Result<Option<Fault>, Memory>
         requires ready { IsReady self.old }
         requires pieces { All IsSoundPiece (map P.own_piece pieces.now) }
         requires counted { self.old.bytes + bytes_in (map P.own_piece pieces.now) ≤ 2 ^ 60 }

@@ -1,13 +1,13 @@
 //! One stretch of an input: its pieces are read, and what is kept of them is written.
-ghost use Rattle.std.specs.Prelude.{◌≡◌, ◌≤◌, ◌<◌, ◌^◌, ◌⊎◌, ℕ, List, [], Option, true, false, IsTrue, IfOk, IfErr, OnOk, OnErr};
-ghost use Rattle.m2v_port.specs.Ends.{SinkStays};
+ghost use Rattle.std.specs.Prelude.{◌≡◌, ◌≤◌, ◌<◌, ◌^◌, ◌⊎◌, ℕ, List, [], true, false, IsTrue, IfOk, IfErr, OnOk, OnErr};
+ghost use Rattle.m2v_port.specs.Ends.{change, SinkStays};
 ghost use Rattle.m2v_port.specs.Port.{Rose};
 ghost use Rattle.m2v_decode.specs.m2v_dec_piece.Cutting.{IsReading};
 ghost use Rattle.m2v_law_seam.specs.Mending as mending;
 ghost use Rattle.m2v_mend.specs.Feeding.{IsOwn};
 ghost use Rattle.m2v_mend.specs.Gathering.{Gathering};
 ghost use Rattle.m2v_mend.specs.Making.{IsFolded, IsFoldReady};
-ghost use Rattle.m2v_mend.specs.Stretching.{Fell, FellOut, IsAnswered, Held, held_by, all_but_last, IsForgotten, IsFlushed, IsPartOf, with_whole, IsNextIf, IsTaken, over_to, IsEnded, InStretch, IsBefore, IsRead, IsBehind, Comes, IsCut, IsPast};
+ghost use Rattle.m2v_mend.specs.Stretching.{FellOut, IsAnswered, held_by, all_but_last, IsForgotten, IsFlushed, IsPartOf, with_whole, IsNextIf, IsTaken, over_to, IsEnded, InStretch, IsBefore, IsRead, IsBehind, Leads, Stops};
 
 use crate::Memory;
 use crate::answer::MendError;
@@ -159,26 +159,18 @@ fn pieces<S: Source, K: Sink, L: Sink>(
     requires ready { IsFoldReady folding.old }
     requires output { IsTrue (K.ready output.old) }
     requires list { IsTrue (L.ready list.old) }
-    ensures told { IfOk result (λ some. (first : Option (List ℕ)) (start : Held)
-        → Comes (InStretch feed.old folding.old) first (S.left input.old) start
-        (held_by K.held L.held output.old list.old)
-        → Comes (IsRead some feed.new folding.new) first (S.left input.new) start
-        (held_by K.held L.held output.new list.new)) }
+    ensures told { IfOk result (λ some. Leads (InStretch feed.old folding.old)
+        (IsRead some feed.new folding.new) (change S.left S.faults input.old input.new)
+        (change K.held K.faults output.old output.new)
+        (change L.held L.faults list.old list.new)) }
     ensures going { OnOk result (feed.new.failed ≡ false) }
     ensures onward { IfOk result (λ some. some ≡ true → feed.old.place < feed.new.place) }
     ensures most { OnOk result (feed.new.place ≤ 2 ^ 36) }
     ensures ready { OnOk result (IsFoldReady folding.new) }
-    ensures err { OnErr result ((first : Option (List ℕ)) (start : Held)
-        → Comes (InStretch feed.old folding.old) first (S.left input.old) start
-        (held_by K.held L.held output.old list.old)
-        → IsCut first (S.left input.new) start (held_by K.held L.held output.new list.new)) }
-    ensures fell { IfErr result (Fell (Rose (S.faults input.old) (S.faults input.new))
-        (Rose (K.faults output.old) (K.faults output.new)
-        ⊎ Rose (L.faults list.old) (L.faults list.new))) }
-    ensures past { IfErr result (λ e. (first : Option (List ℕ)) (start : Held)
-        → Comes (InStretch feed.old folding.old) first (S.left input.old) start
-        (held_by K.held L.held output.old list.old)
-        → IsPast e first (S.left input.new)) }
+    ensures stops { IfErr result (Stops (InStretch feed.old folding.old)
+        (change S.left S.faults input.old input.new)
+        (change K.held K.faults output.old output.new)
+        (change L.held L.faults list.old list.new)) }
     ensures output { SinkStays K.ready K.name K.faults output.old output.new }
     ensures list { SinkStays L.ready L.name L.faults list.old list.new }
     ensures input { S.faults input.old ≤ S.faults input.new }
@@ -212,27 +204,19 @@ pub(crate) fn stretch<S: Source, K: Sink, L: Sink>(
     requires ready { IsFoldReady folding.old }
     requires output { IsTrue (K.ready output.old) }
     requires list { IsTrue (L.ready list.old) }
-    ensures told { IfOk result (λ some. (first : Option (List ℕ)) (start : Held)
-        → Comes (IsBefore feed.old folding.old) first (S.left input.old) start
-        (held_by K.held L.held output.old list.old)
-        → Comes (IsBehind some feed.new folding.new) first (S.left input.new) start
-        (held_by K.held L.held output.new list.new)) }
+    ensures told { IfOk result (λ some. Leads (IsBefore feed.old folding.old)
+        (IsBehind some feed.new folding.new) (change S.left S.faults input.old input.new)
+        (change K.held K.faults output.old output.new)
+        (change L.held L.faults list.old list.new)) }
     ensures going { OnOk result (feed.new.failed ≡ false) }
     ensures onward { IfOk result (λ some. some ≡ true → feed.old.place < feed.new.place) }
     ensures most { OnOk result (feed.new.place ≤ 2 ^ 36) }
     ensures ready { OnOk result (IsFoldReady folding.new) }
     ensures none { OnOk result (folding.new.mender.out.items ≡ []) }
-    ensures err { OnErr result ((first : Option (List ℕ)) (start : Held)
-        → Comes (IsBefore feed.old folding.old) first (S.left input.old) start
-        (held_by K.held L.held output.old list.old)
-        → IsCut first (S.left input.new) start (held_by K.held L.held output.new list.new)) }
-    ensures fell { IfErr result (Fell (Rose (S.faults input.old) (S.faults input.new))
-        (Rose (K.faults output.old) (K.faults output.new)
-        ⊎ Rose (L.faults list.old) (L.faults list.new))) }
-    ensures past { IfErr result (λ e. (first : Option (List ℕ)) (start : Held)
-        → Comes (IsBefore feed.old folding.old) first (S.left input.old) start
-        (held_by K.held L.held output.old list.old)
-        → IsPast e first (S.left input.new)) }
+    ensures stops { IfErr result (Stops (IsBefore feed.old folding.old)
+        (change S.left S.faults input.old input.new)
+        (change K.held K.faults output.old output.new)
+        (change L.held L.faults list.old list.new)) }
     ensures output { SinkStays K.ready K.name K.faults output.old output.new }
     ensures list { SinkStays L.ready L.name L.faults list.old list.new }
     ensures input { S.faults input.old ≤ S.faults input.new }

@@ -7,7 +7,7 @@ ghost use Rattle.m2v_decode.specs.m2v_dec_piece.Cutting.{Cutting};
 ghost use Rattle.m2v_law_seam.specs.Told.{none_kept};
 ghost use Rattle.m2v_mend.specs.Answers.{answer_told, IsMended, Fails};
 ghost use Rattle.m2v_mend.specs.Making.{fault_first, IsFoldReady};
-ghost use Rattle.m2v_mend.specs.Stretching.{Fell, FellOut, Held, held_by, IsBefore, IsBehind, Comes, IsCut, IsPast, IsAll, kept_told};
+ghost use Rattle.m2v_mend.specs.Stretching.{FellOut, Held, held_by, IsBefore, IsBehind, Comes, IsCut, Leads, Stops, IsAll, kept_told};
 
 use crate::Memory;
 use crate::answer::{Answer, MendError};
@@ -109,23 +109,15 @@ fn stretches<S: Source, K: Sink, L: Sink>(
     requires ready { IsFoldReady folding.old }
     requires output { IsTrue (K.ready output.old) }
     requires list { IsTrue (L.ready list.old) }
-    ensures told { OnOk result ((first : Option (List ℕ)) (start : Held)
-        → Comes (IsBefore feed.old folding.old) first (S.left input.old) start
-        (held_by K.held L.held output.old list.old)
-        → Comes (IsBehind false feed.new folding.new) first (S.left input.new) start
-        (held_by K.held L.held output.new list.new)) }
+    ensures told { OnOk result (Leads (IsBefore feed.old folding.old)
+        (IsBehind false feed.new folding.new) (change S.left S.faults input.old input.new)
+        (change K.held K.faults output.old output.new)
+        (change L.held L.faults list.old list.new)) }
     ensures none { OnOk result (folding.new.mender.out.items ≡ []) }
-    ensures err { OnErr result ((first : Option (List ℕ)) (start : Held)
-        → Comes (IsBefore feed.old folding.old) first (S.left input.old) start
-        (held_by K.held L.held output.old list.old)
-        → IsCut first (S.left input.new) start (held_by K.held L.held output.new list.new)) }
-    ensures fell { IfErr result (Fell (Rose (S.faults input.old) (S.faults input.new))
-        (Rose (K.faults output.old) (K.faults output.new)
-        ⊎ Rose (L.faults list.old) (L.faults list.new))) }
-    ensures past { IfErr result (λ e. (first : Option (List ℕ)) (start : Held)
-        → Comes (IsBefore feed.old folding.old) first (S.left input.old) start
-        (held_by K.held L.held output.old list.old)
-        → IsPast e first (S.left input.new)) }
+    ensures stops { IfErr result (Stops (IsBefore feed.old folding.old)
+        (change S.left S.faults input.old input.new)
+        (change K.held K.faults output.old output.new)
+        (change L.held L.faults list.old list.new)) }
     ensures output { SinkStays K.ready K.name K.faults output.old output.new }
     ensures list { SinkStays L.ready L.name L.faults list.old list.new }
     ensures input { S.faults input.old ≤ S.faults input.new }

@@ -21,7 +21,7 @@ returns-in_err-stretches-clause-err g c =
     let held = held_by g.K.Sink.held g.L.Sink.held c.args.output.now c.args.list.now in
     let begun = subst (λ (f : Cutting). Comes (IsBefore f c.new-folding.result) left left held held) (sym c.in_ok-feed.ensures) (nothing_read_yet c.new-folding.result left held c.new-folding.ensures.folded) in
     rw (p.1, p.2) (fails_by (change g.S.Source.left g.S.Source.faults c.args.input.now c.stretches.new.input) (change g.K.Sink.held g.K.Sink.faults c.args.output.now c.stretches.new.output)
-    (change g.L.Sink.held g.L.Sink.faults c.args.list.now c.stretches.new.list) c.in_err-stretches.field-0.0 c.in_err-stretches.ensures.fell (c.in_err-stretches.ensures.past left held begun) (c.in_err-stretches.ensures.err left held begun))
+    (change g.L.Sink.held g.L.Sink.faults c.args.list.now c.stretches.new.list) c.in_err-stretches.field-0.0 c.in_err-stretches.ensures.stops.fell (c.in_err-stretches.ensures.stops.past left held begun) (c.in_err-stretches.ensures.stops.cut left held begun))
 
 pub returns-clause-ok : goal.returns-clause-ok
 returns-clause-ok g c =

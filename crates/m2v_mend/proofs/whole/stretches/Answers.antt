@@ -1,7 +1,8 @@
 use Rattle.std.proofs.Common.{refl, arith}
 use Rattle.std.proofs.lemmas.Result.{err_from_is_err_and}
-use Rattle.m2v_port.proofs.Runs.{stays_on}
+use Rattle.m2v_port.proofs.Runs.{rose_since, stays_on}
 use Rattle.m2v_mend.proofs.Coming.{goes_on}
+use Rattle.m2v_mend.proofs.Ended.{fell_so, either_since}
 use Rattle.m2v_mend.proofs.whole.stretches.Goals as goal
 
 pub loop-feed-preserved : goal.loop-feed-preserved
@@ -18,7 +19,13 @@ loop-feed-preserved g c =
       input = omega (arith, inv.input, c.stretch.ensures.input);
     })
 
-pub returns-in_err-stretch-clause-past : goal.returns-in_err-stretch-clause-past
-returns-in_err-stretch-clause-past g c =
+pub returns-in_err-stretch-clause-stops : goal.returns-in_err-stretch-clause-stops
+returns-in_err-stretch-clause-stops g c =
     let p = err_from_is_err_and c.from_residual.result c.from_residual.ensures.1 in
-    rw (p.1, p.2) (λ first start h. c.in_err-stretch.ensures.past first start (c.loop-feed.invariant.told first start h))
+    let s = c.in_err-stretch.ensures.stops in
+    let inv = c.loop-feed.invariant in
+    rw (p.1, p.2) (record {
+      fell = fell_so _ _ _ _ c.in_err-stretch.field-0.0 (rose_since inv.input) (either_since inv.output.counts inv.list.counts) s.fell;
+      cut = λ first start h. s.cut first start (inv.told first start h);
+      past = λ first start h. s.past first start (inv.told first start h);
+    })
