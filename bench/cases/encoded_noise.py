@@ -1,8 +1,8 @@
 #!/usr/bin/env python3
 """Prints what an encoder by the rules alone chooses for macroblocks of noise: the values of tests of m2v_choose.
 
-The encoder is encoded_choice.py, the macroblock one of an I picture, and the tests are those on noise in
-m2v_choose/src/tests.rt. After the quantiser and the strength of the noise: the quantiser that is sent, the bits, and
+The encoder is encoded_choice.py, the macroblock one of an I picture, and the tests are those of
+m2v_test_trials/src/choose.rt. After the quantiser and the strength of the noise: the quantiser that is sent, the bits, and
 the first six levels of the first and of the last block."""
 
 from copy import deepcopy

@@ -1,51 +1,25 @@
-// What the program's cases don't reach: group headers and matrices that are written, and P pictures.
+// What no command does: matrices that are written.
 use m2v_bits::{BitReader, BitWriter};
-use m2v_head::{GroupInfo, MatrixInfo, PictureInfo};
+use m2v_head::MatrixInfo;
 use std::alloc::{AllocError, Global};
 
-/// Whether bytes are read as a value, up to its last bit, and are what is written of it, with what is left of the last
-/// byte behind it.
-macro_rules! is_both_ways {
-    ($header:ident, $alloc:ident, $bytes:ident, $bits:ident, $value:ident) => {{
-        if $bytes.len() > 100 {
-            return Ok(false);
-        }
-        let mut input = BitReader::new($bytes);
-        let Ok(header) = $header::read(&mut input) else {
-            return Ok(false);
-        };
-        let mut out = BitWriter::over(vec![in $alloc; 0u8; 320]?);
-        header.write(&mut out);
-        let left = input.left().min(7) as u8;
-        out.put(input.peek(left), left);
-        let same = header == $value && input.place() == $bits;
-        Ok(same && out.bit_len() % 8 == 0 && out.bytes() == $bytes)
-    }};
-}
-
-#[tactic(auto, using(m2v_head::proofs::Lengths::group_length))]
-fn is_group(alloc: Global, bytes: &[u8], bits: u64, value: GroupInfo) -> Result<bool, AllocError> {
-    is_both_ways!(GroupInfo, alloc, bytes, bits, value)
-}
-
+/// Whether bytes are read as matrices, up to their last bit, and are what is written of them.
 #[tactic(auto, using(m2v_head::proofs::Lengths::matrices_most))]
 fn is_matrices(
     alloc: Global,
-    bytes: &[u8],
+    bytes: &[u8; 65],
     bits: u64,
     value: MatrixInfo,
 ) -> Result<bool, AllocError> {
-    is_both_ways!(MatrixInfo, alloc, bytes, bits, value)
-}
-
-#[tactic(auto, using(m2v_head::proofs::Lengths::picture_most))]
-fn is_picture(
-    alloc: Global,
-    bytes: &[u8],
-    bits: u64,
-    value: PictureInfo,
-) -> Result<bool, AllocError> {
-    is_both_ways!(PictureInfo, alloc, bytes, bits, value)
+    let mut input = BitReader::new(bytes);
+    let Ok(matrices) = MatrixInfo::read(&mut input) else {
+        return Ok(false);
+    };
+    let mut out = BitWriter::over(vec![in alloc; 0u8; 320]?);
+    matrices.write(&mut out);
+    out.align();
+    let same = matrices == value && input.place() == bits;
+    Ok(same && out.bit_len() % 8 == 0 && out.bytes() == bytes.as_slice())
 }
 
 /// The numbers 1 to 64 in raster order, as they stand in zigzag order (figure 7-2).
@@ -62,22 +36,6 @@ const RASTER_FROM_1: [u8; 64] = [
 ];
 
 #[test]
-fn a_group_header_both_ways(rt: HostRuntime) -> Result<(), AllocError> {
-    let closed = GroupInfo {
-        drop: false,
-        hours: 0,
-        minutes: 0,
-        seconds: 0,
-        pictures: 0,
-        closed_gop: true,
-        broken_link: false,
-    };
-    let same = is_group(rt.alloc(), &[0x00, 0x08, 0x00, 0x40], 27, closed)?;
-    assert!(rt; same);
-    Ok(())
-}
-
-#[test]
 fn a_matrix_extension_both_ways(rt: HostRuntime) -> Result<(), AllocError> {
     let loaded = MatrixInfo {
         intra: None,
@@ -88,22 +46,6 @@ fn a_matrix_extension_both_ways(rt: HostRuntime) -> Result<(), AllocError> {
     let mut bytes = [0x31; 65];
     bytes[1..].copy_from_slice(&ZIGZAG_FROM_1);
     let same = is_matrices(rt.alloc(), &bytes, 520, loaded)?;
-    assert!(rt; same);
-    Ok(())
-}
-
-#[test]
-fn the_header_of_a_p_picture_both_ways(rt: HostRuntime) -> Result<(), AllocError> {
-    let second = PictureInfo {
-        temporal_reference: 1,
-        kind: 2,
-        vbv_delay: 30321,
-        full_pel_forward: false,
-        forward_f_code: 7,
-        full_pel_backward: false,
-        backward_f_code: 0,
-    };
-    let same = is_picture(rt.alloc(), &[0x00, 0x53, 0xB3, 0x8B, 0x80], 34, second)?;
     assert!(rt; same);
     Ok(())
 }

@@ -36,29 +36,35 @@ fn samples(values: &[i32; 64]) -> [i32; 64]
 #[test]
 fn inverts_the_extreme(rt: HostRuntime) {
     let got = inverse(&coefficients(&[2047; 64]));
-    for i in 0..64 {
-        assert_eq!(rt; got[i], OF_HIGHEST[i], "at {i}");
-    }
+    assert_eq!(rt; got, OF_HIGHEST);
 }
 
-// The 1 of mismatch control shows beside a mean only where the eighth of it is near a half.
+// The inverse of a mean beside the 1 of mismatch control.
+fn mean(first: i32) -> [i32; 64] {
+    let mut block = [0; 64];
+    block[0] = first;
+    block[63] = 1;
+    inverse(&coefficients(&block))
+}
+
+// What the formulas give for a mean of 11 eighths beside the 1, and for one of 13 eighths.
+static OF_11: [i32; 64] = [
+    1, 1, 1, 1, 1, 1, 1, 1, 1, 1, 1, 2, 1, 1, 1, 1, 1, 1, 2, 1, 2, 1, 1, 1, 1, 2, 1, 2, 1, 2, 1, 1,
+    1, 1, 2, 1, 2, 1, 2, 1, 1, 1, 1, 2, 1, 2, 1, 1, 1, 1, 1, 1, 2, 1, 1, 1, 1, 1, 1, 1, 1, 1, 1, 1,
+];
+
+static OF_13: [i32; 64] = [
+    2, 2, 2, 2, 2, 2, 2, 2, 2, 2, 2, 2, 1, 2, 2, 2, 2, 2, 2, 1, 2, 1, 2, 2, 2, 2, 1, 2, 1, 2, 1, 2,
+    2, 1, 2, 1, 2, 1, 2, 2, 2, 2, 1, 2, 1, 2, 2, 2, 2, 2, 2, 1, 2, 2, 2, 2, 2, 2, 2, 2, 2, 2, 2, 2,
+];
+
+// The 1 shows only where the eighth of the mean is near a half.
 #[test]
 fn rounds_a_mean_beside_a_small_last_coefficient(rt: HostRuntime) {
-    for (first, twos, at_11, at_12) in [
-        (10, 0, 1, 1),
-        (11, 12, 2, 1),
-        (13, 52, 2, 1),
-        (14, 64, 2, 2),
-    ] {
-        let mut block = [0; 64];
-        block[0] = first;
-        block[63] = 1;
-        let got = inverse(&coefficients(&block));
-        let count = got.iter().filter(|x| **x == 2).count();
-        assert_eq!(rt; count, twos, "{first}");
-        assert_eq!(rt; got[11], at_11, "{first}");
-        assert_eq!(rt; got[12], at_12, "{first}");
-    }
+    assert_eq!(rt; mean(10), [1; 64]);
+    assert_eq!(rt; mean(11), OF_11);
+    assert_eq!(rt; mean(13), OF_13);
+    assert_eq!(rt; mean(14), [2; 64]);
 }
 
 // The real cosine transform, rounded, of a block whose left half is the highest sample and whose
@@ -70,10 +76,8 @@ fn transforms_an_edge(rt: HostRuntime) {
         block[i] = if i % 8 < 4 { 255 } else { -256 };
     }
     let block = samples(&block);
-    let first = [-4, 1852, 0, -650, 0, 435, 0, -368];
-    let got = forward(&block);
-    for i in 0..64 {
-        assert_eq!(rt; got[i], if i < 8 { first[i] } else { 0 }, "at {i}");
-    }
+    let mut want = [0; 64];
+    want[..8].copy_from_slice(&[-4, 1852, 0, -650, 0, 435, 0, -368]);
+    assert_eq!(rt; forward(&block), want);
     assert_eq!(rt; forward_dc(&block), -4);
 }

@@ -1,15 +1,11 @@
-//! Trials: the tests of the crates up to the choice of macroblocks, and of the code of a slice, in one crate above.
+//! Trials: tests of the crates up to the choice of macroblocks, in one crate above them.
 //!
 //! Each module tries one crate through what it offers, on values from outside: worked examples,
 //! tables of the standard, and numbers that another program worked out. `steps` tries the
-//! scheduling core and `syntax` the syntax of macroblocks. `books` has the books of jobs on which
-//! the core and the workers are tried; `levels` and `settings` have those from which tests begin.
+//! scheduling core. `books` has the books of jobs on which the core and the workers are tried,
+//! `levels` blocks of levels from which tests begin.
 #![tactic(auto)]
 
-#[cfg(test)]
-mod bits;
-#[cfg(test)]
-mod block;
 #[cfg(test)]
 mod books;
 #[cfg(test)]
@@ -23,10 +19,6 @@ mod kernel;
 #[cfg(test)]
 mod levels;
 #[cfg(test)]
-mod macroblock;
-#[cfg(test)]
-mod order;
-#[cfg(test)]
 mod plane;
 #[cfg(test)]
 mod port;
@@ -35,25 +27,9 @@ mod pred;
 #[cfg(test)]
 mod quant;
 #[cfg(test)]
-mod rate;
-#[cfg(test)]
 mod recon;
 #[cfg(test)]
-mod rows;
-#[cfg(test)]
-mod search;
-#[cfg(test)]
-mod set;
-#[cfg(test)]
-mod settings;
-#[cfg(test)]
 mod steps;
-#[cfg(test)]
-mod syntax;
-#[cfg(test)]
-mod vbv;
-#[cfg(test)]
-mod vector;
 #[cfg(test)]
 mod vlc;
 #[cfg(test)]

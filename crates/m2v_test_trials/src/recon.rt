@@ -68,8 +68,8 @@ fn adds_the_differences_of_coded_blocks(rt: HostRuntime) -> Result<(), Fail> {
             1,
             &mut row,
         );
-        assert_eq!(rt; spots(&row), Some(want), "{pattern} {dct_field}");
-        assert_eq!(rt; row.sample(Plane::Y, 1, 15), 0, "{pattern} {dct_field}");
+        assert_eq!(rt; spots(&row), Some(want));
+        assert_eq!(rt; row.sample(Plane::Y, 1, 15), 0);
     }
     Ok(())
 }

@@ -27,11 +27,7 @@ fn answers_two_workers(rt: HostRuntime) -> Result<(), Fail> {
     ];
     let mut core = Core::for_book(rt.alloc(), &Chain, 2)?;
     for (event, answer) in table {
-        assert_eq!(rt;
-            core.step(rt.alloc(), &Chain, event),
-            answer,
-            "at {event:?}"
-        );
+        assert_eq!(rt; core.step(rt.alloc(), &Chain, event), answer);
     }
     Ok(())
 }
@@ -51,11 +47,7 @@ fn refuses_by_each_cause(rt: HostRuntime) -> Result<(), Fail> {
     ];
     let mut core = Core::for_book(rt.alloc(), &Chain, 1)?;
     for (event, answer) in table {
-        assert_eq!(rt;
-            core.step(rt.alloc(), &Chain, event),
-            answer,
-            "at {event:?}"
-        );
+        assert_eq!(rt; core.step(rt.alloc(), &Chain, event), answer);
     }
     Ok(())
 }
