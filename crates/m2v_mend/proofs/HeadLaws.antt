@@ -1,7 +1,7 @@
 -- The last sequence header, with one unit more.
 use Rattle.std.proofs.Common.{◌≡◌, ◌⊎◌, ℕ, ◌+◌, ◌-◌, ◌<◌, ◌≤◌, Bool, true, false, List, [], ◌∷◌, ◌++◌, length, get_or, take, drop, replicate, inl, inr, refl, sym, ap, subst, ◌∙◌, append_assoc, append-nil, arith}
 use Rattle.std.specs.Prelude.{nat_le, ◌&&◌, ◌||◌, not, if◌then◌else◌}
-use Rattle.std.proofs.lemmas.Bool.{cases_Bool, both_ways, leb-true, le-leb}
+use Rattle.std.proofs.lemmas.Bool.{cases_Bool, both_ways, leb-true, le-leb, eq-eqb}
 use Rattle.std.proofs.lemmas.List.{length-append, length-drop, length-replicate, drop-drop, drop-append-le, drop_at, take_at, take-append-le, take_all, drop_all}
 use Rattle.std.proofs.Math.Bool.{and-false, or-false, or-true, or_assoc, or_comm}
 use Rattle.m2v_model.specs.Units.{Units, joined, AreUnits}
@@ -15,7 +15,8 @@ use Rattle.m2v_law_seam.specs.Spans.{units_of, is_extension, is_matrices, has_ma
 use Rattle.m2v_law_seam.proofs.Pieced.{joined_one}
 use Rattle.m2v_mend.specs.declared.head.Heads.{Heads}
 use Rattle.m2v_mend.specs.Editing.{IsWhole, IsFirstLength}
-use Rattle.m2v_mend.specs.Heading.{is_empty, is_long, IsHeader, KnowsHeader, IsHeads, IsAppended, IsBehind, IsLeftOut}
+use Rattle.m2v_mend.specs.Heading.{is_empty, is_long, IsHeader, KnowsHeader, IsHeads, IsOnce, IsAppended, IsBehind, IsLeftOut}
+use Rattle.m2v_mend.specs.Telling.{more_sequences}
 use Rattle.m2v_mend.proofs.EditLaws.{none_in_zeros, where_unit, are_units, first_least, within_get}
 
 -- ---- units with one more
@@ -240,8 +241,8 @@ heads_passed old new v off end there follows lost bytes before h = record {
 
 -- ---- unit by unit
 
--- the units before a place were taken
-pub record WalkedTo (us : Units) (z : ℕ) (bytes : List ℕ) (at : ℕ) (old new : Heads) : Type 0 where
+-- the units before a place were taken, with a sequence header among them where one was met
+pub record WalkedTo (us : Units) (z : ℕ) (bytes : List ℕ) (at : ℕ) (met : Bool) (old new : Heads) : Type 0 where
   pub done : Units
   pub rest : Units
   pub are : us ≡ done ++ rest
@@ -249,9 +250,10 @@ pub record WalkedTo (us : Units) (z : ℕ) (bytes : List ℕ) (at : ℕ) (old ne
   pub within : at ≤ length bytes
   pub going : at < length bytes → (text_of (drop at bytes) z ≡ joined rest) × IsZeroEnded (drop at bytes) z
   pub over : length bytes ≤ at → rest ≡ []
+  pub seen : met ≡ true → has_sequence done ≡ true
   pub heads : (before : Units) → IsHeads before old → IsHeads (before ++ done) new
 
-pub walked_start : (z : ℕ) (bytes : List ℕ) (h : Heads) → IsWhole (text_of bytes z) → IsZeroEnded bytes z → WalkedTo (units_of (text_of bytes z)) z bytes 0 h h
+pub walked_start : (z : ℕ) (bytes : List ℕ) (h : Heads) → IsWhole (text_of bytes z) → IsZeroEnded bytes z → WalkedTo (units_of (text_of bytes z)) z bytes 0 false h h
 walked_start z bytes h whole ended = record {
   done = [];
   rest = units_of (text_of bytes z);
@@ -260,16 +262,24 @@ walked_start z bytes h whole ended = record {
   within = omega arith;
   going = λ lt. (whole, ended);
   over = λ le. none_left bytes z ended le;
+  seen = λ on. absurd cc;
   heads = λ before k. subst (λ (l : Units). IsHeads l h) (sym (append-nil before)) k;
 }
 
-pub walked_whole : (us : Units) (z : ℕ) (bytes : List ℕ) (at : ℕ) (old new : Heads) → WalkedTo us z bytes at old new → at < length bytes → IsWhole (text_of (drop at bytes) z)
-walked_whole us z bytes at old new w lt = let e = (w.going lt).0 in e ∙ ap joined (sym (ap units_of e ∙ cut_units w.rest w.units))
+pub walked_whole : (us : Units) (z : ℕ) (bytes : List ℕ) (at : ℕ) (met : Bool) (old new : Heads) → WalkedTo us z bytes at met old new → at < length bytes → IsWhole (text_of (drop at bytes) z)
+walked_whole us z bytes at met old new w lt = let e = (w.going lt).0 in e ∙ ap joined (sym (ap units_of e ∙ cut_units w.rest w.units))
 
-pub walked_next : (us : Units) (z : ℕ) (bytes : List ℕ) (at n behind : ℕ) (old mid new : Heads) → WalkedTo us z bytes at old mid → at < length bytes → IsFirstLength (drop at bytes) z n
+seen_more : (us : Units) (u : List ℕ) (met met' : Bool) → (met ≡ true → has_sequence us ≡ true) → (met' ≡ true → (met ≡ true) ⊎ (is_sequence u ≡ true)) → met' ≡ true → has_sequence (us ++ u ∷ []) ≡ true
+seen_more us u met met' seen more on = elim (more on) [
+  | inl before ↦ has_snoc us u ∙ ap (λ (b : Bool). b || is_sequence u) (seen before)
+  | inr here ↦ has_snoc us u ∙ ap (λ (b : Bool). has_sequence us || b) here ∙ or-true (has_sequence us)
+]
+
+pub walked_next : (us : Units) (z : ℕ) (bytes : List ℕ) (at n behind : ℕ) (met met' : Bool) (old mid new : Heads) → WalkedTo us z bytes at met old mid → at < length bytes → IsFirstLength (drop at bytes) z n
     → ((n ≡ length (drop at bytes)) × (behind ≡ z)) ⊎ ((n ≡ length (drop at bytes) → ⊥) × (behind ≡ 0))
-    → IsBehind mid (text_of (take n (drop at bytes)) behind) new → WalkedTo us z bytes (at + n) old new
-walked_next us z bytes at n behind old mid new w some f zeros step =
+    → (met' ≡ true → (met ≡ true) ⊎ (is_sequence (text_of (take n (drop at bytes)) behind) ≡ true))
+    → IsBehind mid (text_of (take n (drop at bytes)) behind) new → WalkedTo us z bytes (at + n) met' old new
+walked_next us z bytes at n behind met met' old mid new w some f zeros more step =
     let b = drop at bytes in
     let g = w.going some in
     let u = f.unit in
@@ -297,6 +307,7 @@ walked_next us z bytes at n behind old mid new w some f zeros step =
             over = λ le.
                 let none : drop n b ≡ [] = drop_all n b (omega (arith, le, size, some)) in
                 none_in_zeros others z units.3 (sym tail ∙ ap (λ (l : List ℕ). text_of l z) none);
+            seen = seen_more w.done u met met' w.seen (subst (λ (x : List ℕ). met' ≡ true → (met ≡ true) ⊎ (is_sequence x ≡ true)) unit more);
             heads = λ before h. subst (λ (l : Units). IsHeads l new) (append_assoc before w.done (u ∷ [])) (subst (λ (x : List ℕ). IsHeads ((before ++ w.done) ++ x ∷ []) new) unit (step (before ++ w.done) (w.heads before h)));
           }
       | inr k ↦
@@ -310,6 +321,7 @@ walked_next us z bytes at n behind old mid new w some f zeros step =
             within = omega (arith, k.0, size, some);
             going = λ lt. absurd (omega (arith, lt, k.0, size, some));
             over = λ le. k.1;
+            seen = seen_more w.done u met met' w.seen (subst (λ (x : List ℕ). met' ≡ true → (met ≡ true) ⊎ (is_sequence x ≡ true)) unit more);
             heads = λ before h. subst (λ (l : Units). IsHeads l new) (append_assoc before w.done (u ∷ [])) (subst (λ (x : List ℕ). IsHeads ((before ++ w.done) ++ x ∷ []) new) unit (step (before ++ w.done) (w.heads before h)));
           }
     ]
@@ -331,17 +343,25 @@ walked_next us z bytes at n behind old mid new w some f zeros step =
 
 -- ---- as the program shows it
 
-pub walked_at : (us : Units) (z : ℕ) (bytes : List ℕ) (at n k left behind : ℕ) (b : List ℕ) (old mid new : Heads) → b ≡ drop at bytes → k ≡ n → left ≡ length bytes - at → WalkedTo us z bytes at old mid → at < length bytes → IsFirstLength b z n
-    → IsLeftOut n left z behind → IsBehind mid (text_of (take k (drop at bytes)) behind) new → WalkedTo us z bytes (at + n) old new
-walked_at us z bytes at n k left behind b old mid new eb ek el w some f zeros step =
+-- where a sequence header was met before, or the bytes of the next unit that are kept are those of one
+met_by : (met met' : Bool) (kept : List ℕ) (z : ℕ) → 4 ≤ length kept → (met' ≡ true → (met ≡ true) ⊎ (get_or kept 3 0 ≡ 0xB3)) → met' ≡ true → (met ≡ true) ⊎ (is_sequence (text_of kept z) ≡ true)
+met_by met met' kept z le more on = elim (more on) [
+  | inl before ↦ inl before
+  | inr here ↦ inr (eq-eqb (value_of (text_of kept z)) 0xB3 (within_get kept z 3 (omega (arith, le)) ∙ here))
+]
+
+pub walked_at : (us : Units) (z : ℕ) (bytes : List ℕ) (at n k left behind : ℕ) (met met' : Bool) (b : List ℕ) (old mid new : Heads) → b ≡ drop at bytes → k ≡ n → left ≡ length bytes - at → WalkedTo us z bytes at met old mid → at < length bytes → IsFirstLength b z n
+    → IsLeftOut n left z behind → 4 ≤ length (take k (drop at bytes)) → (met' ≡ true → (met ≡ true) ⊎ (get_or (take k (drop at bytes)) 3 0 ≡ 0xB3)) → IsBehind mid (text_of (take k (drop at bytes)) behind) new → WalkedTo us z bytes (at + n) met' old new
+walked_at us z bytes at n k left behind met met' b old mid new eb ek el w some f zeros four more step =
     let own : IsFirstLength (drop at bytes) z n = subst (λ (l : List ℕ). IsFirstLength l z n) eb f in
     let size : left ≡ length (drop at bytes) = omega (arith, el, length-drop at bytes) in
     let out : IsLeftOut n (length (drop at bytes)) z behind = subst (λ (m : ℕ). IsLeftOut n m z behind) size zeros in
-    walked_next us z bytes at n behind old mid new w some own out (subst (λ (m : ℕ). IsBehind mid (text_of (take m (drop at bytes)) behind) new) ek step)
+    let seen = met_by met met' (take k (drop at bytes)) behind four more in
+    walked_next us z bytes at n behind met met' old mid new w some own out (subst (λ (m : ℕ). met' ≡ true → (met ≡ true) ⊎ (is_sequence (text_of (take m (drop at bytes)) behind) ≡ true)) ek seen) (subst (λ (m : ℕ). IsBehind mid (text_of (take m (drop at bytes)) behind) new) ek step)
 
-pub walked_least : (us : Units) (z : ℕ) (bytes : List ℕ) (at n : ℕ) (b : List ℕ) (old new : Heads) → b ≡ drop at bytes → WalkedTo us z bytes at old new → at < length bytes → IsFirstLength b z n → 4 ≤ n
-walked_least us z bytes at n b old new eb w some f =
-    first_least (drop at bytes) z n (omega (arith, some, length-drop at bytes)) (w.going some).1 (walked_whole us z bytes at old new w some) (subst (λ (l : List ℕ). IsFirstLength l z n) eb f)
+pub walked_least : (us : Units) (z : ℕ) (bytes : List ℕ) (at n : ℕ) (met : Bool) (b : List ℕ) (old new : Heads) → b ≡ drop at bytes → WalkedTo us z bytes at met old new → at < length bytes → IsFirstLength b z n → 4 ≤ n
+walked_least us z bytes at n met b old new eb w some f =
+    first_least (drop at bytes) z n (omega (arith, some, length-drop at bytes)) (w.going some).1 (walked_whole us z bytes at met old new w some) (subst (λ (l : List ℕ). IsFirstLength l z n) eb f)
 
 pub kept_value : (kept : List ℕ) (z v : ℕ) → 4 ≤ length kept → get_or kept 3 0 ≡ v → value_of (text_of kept z) ≡ v
 kept_value kept z v le e = within_get kept z 3 (omega (arith, le)) ∙ e
@@ -357,3 +377,25 @@ heads_same (u ∷ us) h f s m before k =
     let b = or_parts (is_matrices u) (has_matrices us) m in
     let lost : h.lost ≡ (h.lost || is_matrices u) = sym (ap (λ (x : Bool). h.lost || x) b.0 ∙ or-false h.lost) in
     subst (λ (l : Units). IsHeads l h) (append_assoc before (u ∷ []) us) (heads_same us h f a.1 b.1 (before ++ u ∷ []) (heads_passed h h u a.0 (inl f) refl f lost refl before k))
+
+-- ---- no sequence header behind the only one
+
+none_more : (us : Units) → more_sequences true us ≡ false → has_sequence us ≡ false
+unfolding more_sequences has_sequence
+none_more [] h = refl
+none_more (u ∷ us) h = let p = or_parts (is_sequence u) (more_sequences true us) h in ap (λ (b : Bool). b || has_sequence us) p.0 ∙ none_more us p.1
+
+more_behind : (met : Bool) (done rest : Units) → more_sequences met (done ++ rest) ≡ false → (met || has_sequence done) ≡ true → has_sequence rest ≡ false
+unfolding more_sequences has_sequence
+more_behind met [] rest h on = none_more rest (ap (λ (b : Bool). more_sequences b rest) (sym (sym (or-false met) ∙ on)) ∙ h)
+more_behind met (u ∷ done) rest h on =
+    let p = or_parts (met && is_sequence u) (more_sequences (met || is_sequence u) (done ++ rest)) h in
+    more_behind (met || is_sequence u) done rest p.1 (or_assoc met (is_sequence u) (has_sequence done) ∙ on)
+
+pub walked_over : (us : Units) (z : ℕ) (bytes : List ℕ) (at : ℕ) (met : Bool) (old new : Heads) → WalkedTo us z bytes at met old new → IsOnce us → met ≡ true → new.follows ≡ false
+    → (before : Units) → IsHeads before old → IsHeads (before ++ us) new
+walked_over us z bytes at met old new w once on ended before h =
+    let sequences : more_sequences false (w.done ++ w.rest) ≡ false = ap (more_sequences false) (sym w.are) ∙ once.once in
+    let matrices = or_parts (has_matrices w.done) (has_matrices w.rest) (sym (matrices_append w.done w.rest) ∙ ap has_matrices (sym w.are) ∙ once.none) in
+    subst (λ (l : Units). IsHeads l new) (append_assoc before w.done w.rest ∙ ap (λ (l : Units). before ++ l) (sym w.are))
+    (heads_same w.rest new ended (more_behind false w.done w.rest sequences (w.seen on)) matrices.1 (before ++ w.done) (w.heads before h))

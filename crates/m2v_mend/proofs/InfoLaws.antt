@@ -1,6 +1,6 @@
 -- What a piece tells, unit by unit.
 use Rattle.std.proofs.Common.{◌≡◌, ℕ, ◌+◌, ◌-◌, ◌*◌, ◌/◌, ◌<◌, ◌≤◌, Bool, true, false, List, [], ◌∷◌, ◌++◌, length, refl, sym, ap, subst, ◌∙◌, append-nil, arith}
-use Rattle.std.specs.Prelude.{nat_eq, nat_le, ◌||◌, if◌then◌else◌, Option, Some, None}
+use Rattle.std.specs.Prelude.{nat_eq, nat_le, ◌&&◌, ◌||◌, if◌then◌else◌, Option, Some, None}
 use Rattle.std.proofs.lemmas.Bool.{le-leb, eq-eqb, ne_eqb}
 use Rattle.std.proofs.lemmas.List.{length-append}
 use Rattle.std.proofs.Math.Bool.{or-false, or_assoc}
@@ -14,12 +14,12 @@ use Rattle.m2v_law_seam.specs.Spans.{units_of, units_in, begins_kind, has_group,
 use Rattle.m2v_law_seam.specs.Faults.{before_picture, before_matrices}
 use Rattle.m2v_mend.specs.declared.info.Counted.{Counted}
 use Rattle.m2v_mend.specs.Feeding.{from_end}
-use Rattle.m2v_mend.specs.Telling.{first_kind, IsCounted, place_with, counted_with}
+use Rattle.m2v_mend.specs.Telling.{first_kind, more_sequences, IsCounted, place_with, counted_with}
 
 -- ---- what is counted
 
 pub counted_none : Counted
-counted_none = record { sequence = false; group = false; pictures = 0; matrices = false; matrices_place = 0 }
+counted_none = record { sequence = false; again = false; group = false; pictures = 0; matrices = false; matrices_place = 0 }
 
 unfoldable pub counted_from : Counted → Units → Counted
 counted_from c [] = c
@@ -29,6 +29,11 @@ sequence_from : (us : Units) (c : Counted) → (counted_from c us).sequence ≡ 
 unfolding counted_from has_sequence
 sequence_from [] c = sym (or-false c.sequence)
 sequence_from (u ∷ us) c = sequence_from us (counted_with u c) ∙ or_assoc c.sequence (is_sequence u) (has_sequence us)
+
+again_from : (us : Units) (c : Counted) → (counted_from c us).again ≡ (c.again || more_sequences c.sequence us)
+unfolding counted_from more_sequences
+again_from [] c = sym (or-false c.again)
+again_from (u ∷ us) c = again_from us (counted_with u c) ∙ or_assoc c.again (c.sequence && is_sequence u) (more_sequences (c.sequence || is_sequence u) us)
 
 group_by : (b : Bool) (n : ℕ) → nat_le 1 ((if b then 1 else 0) + n) ≡ (b || nat_le 1 n)
 group_by true n = le-leb 1 (1 + n) (omega arith)
@@ -80,6 +85,7 @@ counted_is : (us : Units) → IsCounted us (counted_from counted_none us)
 unfolding counted_none
 counted_is us = record {
   sequence = sequence_from us counted_none;
+  again = again_from us counted_none;
   group = group_from us counted_none;
   pictures = pictures_from us counted_none ∙ omega arith;
   matrices = matrices_from us counted_none;
@@ -93,7 +99,7 @@ pub record CountedTo (all us : Units) (c : Counted) : Type 0 where
   pub pictures : c.pictures + unit_bits us ≤ unit_bits all
   pub place : 8 * c.matrices_place + unit_bits us ≤ unit_bits all
 
-pub counted_start : (us : Units) (c : Counted) → c ≡ record { sequence = false; group = false; pictures = 0; matrices = false; matrices_place = 0 } → unit_bits us < 1099511627776 → CountedTo us us c
+pub counted_start : (us : Units) (c : Counted) → c ≡ record { sequence = false; again = false; group = false; pictures = 0; matrices = false; matrices_place = 0 } → unit_bits us < 1099511627776 → CountedTo us us c
 unfolding counted_none
 counted_start us c e lt = record {
   going = ap (λ (d : Counted). counted_from d (to_end us)) (sym e);

@@ -4,6 +4,7 @@ use Rattle.m2v_model.specs.Units.{Units, joined}
 use Rattle.m2v_law_group.specs.Groups.{from_last_sequence}
 use Rattle.m2v_law_seam.specs.Spans.{has_matrices, extensions_first, behind_extensions, most_head}
 use Rattle.m2v_mend.specs.declared.head.Heads.{Heads}
+use Rattle.m2v_mend.specs.Telling.{more_sequences}
 
 -- there are no units
 abbrev pub is_empty : Units → Bool
@@ -31,6 +32,11 @@ KnowsHeader (u ∷ us) h = IsHeader u us h
 pub record IsHeads (before : Units) (h : Heads) : Type 0 where
   pub known : KnowsHeader (from_last_sequence before) h
   pub most : length h.bytes.items ≤ 4096
+
+-- one sequence header is among units at most, and no quant matrix extension
+pub record IsOnce (us : Units) : Type 0 where
+  pub once : more_sequences false us ≡ false
+  pub none : has_matrices us ≡ false
 
 -- a unit was appended, or with it the header is too long
 pub record IsAppended (old : Heads) (u : List ℕ) (new : Heads) : Type 0 where

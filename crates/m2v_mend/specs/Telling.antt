@@ -1,5 +1,5 @@
 -- What a piece tells without being decoded.
-use Rattle.std.specs.Prelude.{◌≡◌, ℕ, ◌+◌, Bool, ◌||◌, nat_eq, List, [], ◌∷◌, length, Option, Some, None, if◌then◌else◌}
+use Rattle.std.specs.Prelude.{◌≡◌, ℕ, ◌+◌, Bool, false, ◌&&◌, ◌||◌, nat_eq, List, [], ◌∷◌, length, Option, Some, None, if◌then◌else◌}
 use Rattle.m2v_model.specs.Units.{Units, joined, body}
 use Rattle.m2v_model.specs.Looking.{number_from}
 use Rattle.m2v_model.specs.Streams.{value_of}
@@ -19,9 +19,15 @@ abbrev pub unit_or_none : Option (List ℕ) → List ℕ
 unit_or_none None = []
 unit_or_none (Some u) = u
 
+-- among units a sequence header stands behind another, or behind one that was met before them
+unfoldable pub more_sequences : Bool → Units → Bool
+more_sequences met [] = false
+more_sequences met (u ∷ us) = (met && is_sequence u) || more_sequences (met || is_sequence u) us
+
 -- each field is what the definitions say of the units of the piece
 pub record IsInfo (us : Units) (i : PieceInfo) : Type 0 where
   pub sequence : i.sequence ≡ has_sequence us
+  pub again : i.again ≡ more_sequences false us
   pub group : i.group ≡ has_group us
   pub pictures : i.pictures ≡ picture_count us
   pub kind : i.kind ≡ first_kind (coded_pictures us)
@@ -33,6 +39,7 @@ pub record IsInfo (us : Units) (i : PieceInfo) : Type 0 where
 -- what is counted of units
 pub record IsCounted (us : Units) (c : Counted) : Type 0 where
   pub sequence : c.sequence ≡ has_sequence us
+  pub again : c.again ≡ more_sequences false us
   pub group : c.group ≡ has_group us
   pub pictures : c.pictures ≡ picture_count us
   pub matrices : c.matrices ≡ has_matrices us
@@ -50,6 +57,7 @@ place_with matrices bytes place = if matrices then place else place + bytes
 abbrev pub counted_with : List ℕ → Counted → Counted
 counted_with u c = record {
   sequence = c.sequence || is_sequence u;
+  again = c.again || (c.sequence && is_sequence u);
   group = c.group || is_group u;
   pictures = pictures_with (value_of u) c.pictures;
   matrices = c.matrices || is_matrices u;

@@ -1,16 +1,17 @@
 //! The head of what follows: the last sequence header that was met, with the extension units right behind it.
-ghost use Rattle.std.specs.Prelude.{◌≡◌, ◌+◌, ◌^◌, ◌<◌, ◌≤◌, ◌⊎◌, ◌++◌, [], true, false, length, is_some, OnOk, Some};
+ghost use Rattle.std.specs.Prelude.{◌≡◌, ◌+◌, ◌^◌, ◌<◌, ◌≤◌, ◌⊎◌, ◌++◌, [], true, false, length, is_some, slice_index, OnOk, Some};
 ghost use Rattle.m2v_model.specs.Units.{Units};
 ghost use Rattle.m2v_decode.specs.Decoding.{whole_of};
 ghost use Rattle.m2v_dec_unit.specs.Texts.{text_of, IsZeroEnded};
 ghost use Rattle.m2v_law_group.specs.Groups.{from_last_sequence, is_sequence};
 ghost use Rattle.m2v_law_seam.specs.Spans.{units_of, head_of, is_extension};
 ghost use Rattle.m2v_mend.specs.Editing.{IsWhole};
-ghost use Rattle.m2v_mend.specs.Heading.{IsHeads, IsBehind, IsAppended, IsLeftOut};
+ghost use Rattle.m2v_mend.specs.Heading.{IsHeads, IsOnce, IsBehind, IsAppended, IsLeftOut};
 ghost use Rattle.m2v_mend.specs.Members.{IsMember};
 
 use crate::Memory;
 use crate::edits::unit_length;
+use crate::info::PieceInfo;
 use crate::member::Member;
 use crate::walk::{EXTENSION, SEQUENCE, matrices_seen, zeros_of};
 use m2v_dec_unit::Unit;
@@ -38,6 +39,28 @@ fn zeros_behind(n: usize, left: usize, zeros: u64) -> u64
         return zeros;
     }
     0
+}
+
+/// A sequence header is among units with one more, by its bytes that are kept.
+fn met_with(met: bool, kept: &[u8]) -> bool
+    requires { 4 ≤ length kept.now }
+    ensures { result ≡ true → (met ≡ true) ⊎ (slice_index kept.now 3 ≡ 0xB3) }
+{
+    met || kept[3] == SEQUENCE
+}
+
+/// Nothing changes the head any more: its header was met, no other one follows, and what belongs to it has ended.
+fn is_over(once: bool, met: bool, follows: bool) -> bool
+    ensures { result ≡ true → (once ≡ true) × (met ≡ true) × (follows ≡ false) }
+{
+    once && met && !follows
+}
+
+/// One sequence header is among the units of a piece at most, and no quant matrix extension.
+fn is_once(info: &PieceInfo) -> bool
+    ensures { result ≡ true → (info.now.again ≡ false) × (info.now.matrices ≡ false) }
+{
+    !info.again && !info.matrices
 }
 
 impl Heads {
@@ -126,20 +149,27 @@ impl Heads {
         self.other(kept, zeros)
     }
 
-    /// The units of bytes and of the zero bytes behind them.
-    fn take_all(&mut self, bytes: &[u8], zeros: u64) -> Result<(), Memory>
+    /// The units of bytes and of the zero bytes behind them. Where one sequence header is among them at most, and no quant
+    /// matrix extension, those behind what belongs to the header aren't looked at.
+    fn take_all(&mut self, bytes: &[u8], zeros: u64, once: bool) -> Result<(), Memory>
         requires most { length bytes.now + zeros ≤ 2 ^ 36 }
         requires ended { IsZeroEnded bytes.now zeros }
         requires units { IsWhole (text_of bytes.now zeros) }
+        requires once { once ≡ true → IsOnce (units_of (text_of bytes.now zeros)) }
         ensures { OnOk result ((before : Units) → IsHeads before self.old
             → IsHeads (before ++ units_of (text_of bytes.now zeros)) self.new) }
     {
         let mut at = 0;
+        let mut met = false;
         while at < bytes.len() {
             let n = unit_length(&bytes[at..], zeros);
             let behind = zeros_behind(n, bytes.len() - at, zeros);
             self.unit(&bytes[at..at + n], behind)?;
+            met = met_with(met, &bytes[at..at + n]);
             at += n;
+            if is_over(once, met, self.follows) {
+                return Ok(());
+            }
         }
         Ok(())
     }
@@ -152,7 +182,8 @@ impl Heads {
             → IsHeads (before ++ units_of (whole_of member.now.piece)) self.new) }
     {
         if self.follows || member.info.sequence || member.info.matrices {
-            return self.take_all(&member.piece.bytes, zeros_of(&member.piece));
+            let once = is_once(&member.info);
+            return self.take_all(&member.piece.bytes, zeros_of(&member.piece), once);
         }
         Ok(())
     }

@@ -18,8 +18,9 @@ use m2v_decode::Piece;
 /// What a piece tells.
 #[derive(Clone, Copy, Debug, PartialEq, Eq)]
 pub struct PieceInfo {
-    /// It has a sequence header, and a group header.
+    /// It has a sequence header, more than one, and a group header.
     pub sequence: bool,
+    pub again: bool,
     pub group: bool,
     /// How many picture units it has.
     pub pictures: u64,
@@ -39,6 +40,7 @@ pub struct PieceInfo {
 #[derive(Clone, Copy, Debug, PartialEq, Eq)]
 pub struct Counted {
     pub sequence: bool,
+    pub again: bool,
     pub group: bool,
     pub pictures: u64,
     pub matrices: bool,
@@ -142,6 +144,13 @@ fn seen(before: bool, value: u8, wanted: u8) -> bool
     before || value == wanted
 }
 
+/// More than one sequence header is among units with one more, where one was met before or not.
+fn seen_again(before: bool, met: bool, value: u8) -> bool
+    ensures { result ≡ (before || (met && nat_eq value 0xB3)) }
+{
+    before || met && value == SEQUENCE
+}
+
 /// What is counted with one unit more.
 fn counted_with(counted: &Counted, unit: &Unit) -> Counted
     requires pictures { counted.now.pictures < 2 ^ 40 }
@@ -153,6 +162,7 @@ fn counted_with(counted: &Counted, unit: &Unit) -> Counted
     let matrices = matrices_seen(counted.matrices, unit);
     Counted {
         sequence: seen(counted.sequence, value, SEQUENCE),
+        again: seen_again(counted.again, counted.sequence, value),
         group: seen(counted.group, value, GROUP),
         pictures: pictures_behind(counted.pictures, value),
         matrices,
@@ -169,6 +179,7 @@ pub(crate) fn count(units: &mut UnitReader) -> (Counted, u64)
     let _total = units.left();
     let mut counted = Counted {
         sequence: false,
+        again: false,
         group: false,
         pictures: 0,
         matrices: false,
@@ -197,6 +208,7 @@ pub(crate) fn info_of(piece: &Piece, counted: &Counted) -> PieceInfo
     let first = first_picture(&mut units(piece));
     PieceInfo {
         sequence: counted.sequence,
+        again: counted.again,
         group: counted.group,
         pictures: counted.pictures,
         kind: first.kind,
