@@ -2,7 +2,7 @@
 use Rattle.std.proofs.Common.{◌≡◌, ◌⊎◌, ℕ, ◌+◌, ◌-◌, ◌<◌, ◌≤◌, Bool, true, false, List, [], ◌∷◌, ◌++◌, length, get_or, take, drop, replicate, inl, inr, refl, sym, ap, subst, ◌∙◌, append_assoc, append-nil, arith}
 use Rattle.std.specs.Prelude.{nat_le, ◌&&◌, ◌||◌, not, if◌then◌else◌}
 use Rattle.std.proofs.lemmas.Bool.{cases_Bool, both_ways, leb-true, le-leb, eq-eqb}
-use Rattle.std.proofs.lemmas.List.{length-append, length-drop, length-replicate, drop-drop, drop-append-le, drop_at, take_at, take-append-le, take_all, drop_all}
+use Rattle.std.proofs.lemmas.List.{length-append, length-drop, length-take, length-replicate, drop-drop, drop-append-le, drop_at, take_at, take-append-le, take_all, drop_all}
 use Rattle.std.proofs.Math.Bool.{and-false, or-false, or-true, or_assoc, or_comm}
 use Rattle.m2v_model.specs.Units.{Units, joined, AreUnits}
 use Rattle.m2v_model.specs.Streams.{value_of}
@@ -362,6 +362,13 @@ walked_at us z bytes at n k left behind met met' b old mid new eb ek el w some f
 pub walked_least : (us : Units) (z : ℕ) (bytes : List ℕ) (at n : ℕ) (met : Bool) (b : List ℕ) (old new : Heads) → b ≡ drop at bytes → WalkedTo us z bytes at met old new → at < length bytes → IsFirstLength b z n → 4 ≤ n
 walked_least us z bytes at n met b old new eb w some f =
     first_least (drop at bytes) z n (omega (arith, some, length-drop at bytes)) (w.going some).1 (walked_whole us z bytes at met old new w some) (subst (λ (l : List ℕ). IsFirstLength l z n) eb f)
+
+-- at least the four bytes of its start code are kept of the next unit
+pub walked_four : (us : Units) (z : ℕ) (bytes : List ℕ) (at n : ℕ) (met : Bool) (b : List ℕ) (old new : Heads) → b ≡ drop at bytes → WalkedTo us z bytes at met old new → at < length bytes → IsFirstLength b z n → n ≤ length b
+    → 4 ≤ length (take (at + n - at) (drop at bytes))
+walked_four us z bytes at n met b old new eb w some f within =
+    let least = walked_least us z bytes at n met b old new eb w some f in
+    omega (arith, least, within, ap length eb, length-take (at + n - at) (drop at bytes))
 
 pub kept_value : (kept : List ℕ) (z v : ℕ) → 4 ≤ length kept → get_or kept 3 0 ≡ v → value_of (text_of kept z) ≡ v
 kept_value kept z v le e = within_get kept z 3 (omega (arith, le)) ∙ e
