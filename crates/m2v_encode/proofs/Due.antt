@@ -16,9 +16,10 @@ use Rattle.m2v_order.specs.declared.jobs.GroupJobs.{GroupJobs}
 use Rattle.m2v_order.specs.Whole.{IsGroupOf, handed}
 use Rattle.m2v_order.specs.Groups.{Queue, Group, first_of, is_due, group_size, group_of, anchor_before, after_group, IsSoundQueue}
 use Rattle.m2v_order.proofs.Queues.{grouped, due_is, turn_is}
+use Rattle.m2v_encode.specs.declared.measured.MeasuredGroup.{MeasuredGroup}
 use Rattle.m2v_encode.specs.declared.answer.EncodeError.{EncodeError}
 use Rattle.m2v_encode.specs.declared.answer.EncodeError.TheVariants.{Read, Write, ShortFrame, NoFrames, TooManyFrames, Memory}
-use Rattle.m2v_encode.specs.Steps.{ReadStops, FrameStops, GroupOut}
+use Rattle.m2v_encode.specs.Steps.{ReadStops, FrameStops, CanCode, GroupOut}
 use Rattle.m2v_law_shown.proofs.m2v_enc_stream.Queues.{before_some}
 
 pub some_bytes : (d : Dims) → IsSize d → 0 < frame_bytes d
@@ -51,35 +52,22 @@ frames_few : (q : Queue Samples) → length (group_of q).frames ≤ length q.fra
 unfolding group_of
 frames_few q = omega (arith, ap length (take-append-drop (group_size q) q.frames), length-append (take (group_size q) q.frames) (drop (group_size q) q.frames))
 
-early_is : (q : Queue Samples) (jobs : List PictureJob) (frames : List Samples) → IsSoundQueue q → q.pushed < 1000000 → frames ≡ (group_of q).frames
+pub early_is : (q : Queue Samples) (jobs : List PictureJob) (frames : List Samples) → IsSoundQueue q → q.pushed < 1000000 → frames ≡ (group_of q).frames
     → All (λ (j : PictureJob). (j.display ≡ first_of q + j.frame) × (j.frame < length frames)) jobs → All (λ (j : PictureJob). j.display < 1000000) jobs
 early_is q jobs frames sound pushed same places = λ k d lt.
     let at = places k d lt in
     omega (arith, at.0, at.1, ap length same, frames_few q, sound.room, pushed)
 
 -- what a queue handed out
-pub group_out : (q last : Queue Samples) (g : GroupJobs) → IsSoundQueue q → q.pushed < 1000000 → is_due q ≡ true
-    → g.frames.items ≡ (group_of q).frames → g.pictures.items ≡ (group_of q).pictures → g.before ≡ (group_of q).before → IsGroupOf q.settings (handed g)
-    → All (λ (j : PictureJob). (j.display ≡ first_of q + j.frame) × (j.frame < length g.frames.items)) g.pictures.items
-    → All (λ (f : Samples). f.dims ≡ dims_of q.settings) g.frames.items → last ≡ after_group q → GroupOut q.settings q last g
-group_out q last g sound few due frames pictures before group places sizes after = record {
+pub group_out : (s : Settings) (q last : Queue Samples) (g : GroupJobs) (m : MeasuredGroup) → is_due q ≡ true
+    → g.frames.items ≡ (group_of q).frames → g.pictures.items ≡ (group_of q).pictures → g.before ≡ (group_of q).before → last ≡ after_group q
+    → m.group ≡ g → CanCode s m → GroupOut s q last m
+group_out s q last g m due frames pictures before after same code = record {
   due = due;
-  is = same_group (handed g) (group_of q) frames pictures before;
+  is = ap handed same ∙ same_group (handed g) (group_of q) frames pictures before;
   after = after;
-  group = record { group = group; sizes = sizes; early = early_is q g.pictures.items g.frames.items sound few frames places };
+  group = code;
 }
-
-pub due_out : {E : Type 0} (q last : Queue Samples) (result : Result (Option GroupJobs) E) → IsSoundQueue q → q.pushed < 1000000
-    → IfOk result (λ o. IsSome o ↔ IsTrue (is_due q)) → IfOk result (λ o. IfSome o (λ (g : GroupJobs). g.frames.items ≡ (group_of q).frames))
-    → IfOk result (λ o. IfSome o (λ (g : GroupJobs). g.pictures.items ≡ (group_of q).pictures)) → IfOk result (λ o. IfSome o (λ (g : GroupJobs). g.before ≡ (group_of q).before))
-    → IfOk result (λ o. IfSome o (λ (g : GroupJobs). IsGroupOf q.settings (handed g)))
-    → IfOk result (λ o. IfSome o (λ (g : GroupJobs). All (λ (j : PictureJob). (j.display ≡ first_of q + j.frame) × (j.frame < length g.frames.items)) g.pictures.items))
-    → IfOk result (λ o. IfSome o (λ (g : GroupJobs). All (λ (f : Samples). f.dims ≡ dims_of q.settings) g.frames.items))
-    → IfOk result (λ o. OnSome o (last ≡ after_group q)) → IfOk result (λ o. IfSome o (GroupOut q.settings q last))
-due_out q last (Ok (Some g)) sound few due frames pictures before group places sizes after =
-    group_out q last g sound few (due.0 refl) frames pictures before group places sizes after
-due_out q last (Ok None) sound few due frames pictures before group places sizes after = tt
-due_out q last (Err e) sound few due frames pictures before group places sizes after = tt
 
 pub after_some : (q r : Queue Samples) → Passes q.settings → IsSoundQueue q → is_due q ≡ true → r ≡ after_group q → is_some (anchor_before (first_of r)) ≡ true
 after_some q r passes sound is same =

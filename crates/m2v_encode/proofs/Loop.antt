@@ -10,7 +10,6 @@ use Rattle.m2v_plane.specs.Samples.{Samples}
 use Rattle.m2v_set.specs.declared.settings.Settings.{Settings}
 use Rattle.m2v_set.specs.Numbers.{dims_of}
 use Rattle.m2v_set.specs.Rules.{Passes}
-use Rattle.m2v_order.specs.declared.jobs.GroupJobs.{GroupJobs}
 use Rattle.m2v_order.specs.Groups.{Queue, Group, opening, first_of, intra_from, next_intra, is_due, group_of, anchor_before, after_push, after_group, IsSoundQueue}
 use Rattle.m2v_order.specs.Whole.{handed}
 use Rattle.m2v_order.proofs.Queues.{grouped, push_first, sound_push, sound_next, due_is, turn_is, next_is, true_false}
@@ -24,6 +23,7 @@ use Rattle.m2v_encode.specs.declared.answer.EncodeError.{EncodeError}
 use Rattle.m2v_encode.specs.declared.answer.EncodeError.TheVariants.{Memory}
 use Rattle.m2v_encode.specs.declared.group.Coder.{Coder}
 use Rattle.m2v_encode.specs.declared.intake.Intake.{Intake}
+use Rattle.m2v_encode.specs.declared.measured.MeasuredGroup.{MeasuredGroup}
 use Rattle.m2v_encode.specs.Answers.{most_frames, Stops}
 use Rattle.m2v_encode.specs.Groups.{IsPlace}
 use Rattle.m2v_encode.specs.Steps.{FrameRead, NoneRead, FrameStops, GoesOn, CanCode, CanRead, GroupOut, HandsOut, ReadsOn, ReadsNext, Comes, BesideStops, GroupCoded, GroupStops, SoFar, book_by}
@@ -108,8 +108,8 @@ can_frame t u left passes can few read count same raw rest = record {
 }
 
 -- a group was due with it, and was handed out
-can_group : (t u v : Intake) (g : GroupJobs) (left : Change) → Passes t.settings → CanRead t → t.count < most_frames → FrameRead t.settings t.queue u.queue left
-    → u.count ≡ t.count + 1 → u.settings ≡ t.settings → vec_len u.raw ≡ frame_bytes (dims_of u.settings) → GroupOut u.queue.settings u.queue v.queue g
+can_group : (t u v : Intake) (g : MeasuredGroup) (left : Change) → Passes t.settings → CanRead t → t.count < most_frames → FrameRead t.settings t.queue u.queue left
+    → u.count ≡ t.count + 1 → u.settings ≡ t.settings → vec_len u.raw ≡ frame_bytes (dims_of u.settings) → GroupOut u.settings u.queue v.queue g
     → v.count ≡ u.count → v.settings ≡ u.settings → vec_len v.raw ≡ vec_len u.raw → CanRead v
 can_group t u v g left passes can few read count same raw out kept settings buffer =
     let q = t.queue in
@@ -213,15 +213,14 @@ module _ {S : Type 0} (left : S → Option (List ℕ)) (faults : S → ℕ) wher
       (reads_frame left faults old.settings t.queue u.queue i1 i2 can.going rises (subst (λ (s : Settings). FrameRead s t.queue u.queue (change left faults i1 i2)) settings read))
 
   -- a group was due, and was handed out
-  pub next_due : (old t u v : Intake) (next : Option GroupJobs) (i0 i1 i2 : S) → Passes old.settings → ReadsOn left faults old.settings old.queue t.queue i0 i1 → CanRead t → t.settings ≡ old.settings
+  pub next_due : (old t u v : Intake) (next : Option MeasuredGroup) (i0 i1 i2 : S) → Passes old.settings → ReadsOn left faults old.settings old.queue t.queue i0 i1 → CanRead t → t.settings ≡ old.settings
       → t.count < most_frames → FrameRead t.settings t.queue u.queue (change left faults i1 i2) → faults i1 ≤ faults i2
-      → u.count ≡ t.count + 1 → u.settings ≡ t.settings → vec_len u.raw ≡ frame_bytes (dims_of u.settings) → IfSome next (GroupOut u.queue.settings u.queue v.queue)
+      → u.count ≡ t.count + 1 → u.settings ≡ t.settings → vec_len u.raw ≡ frame_bytes (dims_of u.settings) → IfSome next (GroupOut u.settings u.queue v.queue)
       → v.count ≡ u.count → v.settings ≡ u.settings → vec_len v.raw ≡ vec_len u.raw → is_some next ≡ true → ReadsNext left faults old v i0 i2 (Ok next)
   unfolding HandsOut
   next_due old t u v (Some g) i0 i1 i2 passes reads can settings few read rises count same raw out kept alike buffer some =
       let pass : Passes t.settings = subst Passes (sym settings) passes in
       let pushed = ap (λ (q : Queue Samples). q.pushed) read.pushed in
-      let is : u.queue.settings ≡ old.settings = ap (λ (q : Queue Samples). q.settings) read.pushed ∙ can.settings ∙ settings in
       let all = reads_more old t u i0 i1 i2 reads can settings read rises in
       record {
         ok = record {
@@ -229,7 +228,7 @@ module _ {S : Type 0} (left : S → Option (List ℕ)) (faults : S → ℕ) wher
           reads = all;
           most = omega (arith, pushed, can.count, few);
           sound = sound_read t.settings t.queue u.queue (change left faults i1 i2) pass can.settings can.sound can.going read;
-          out = subst (λ (s : Settings). GroupOut s u.queue v.queue g) is out;
+          out = subst (λ (s : Settings). GroupOut s u.queue v.queue g) (same ∙ settings) out;
           more = λ yes. omega (arith, pushed, (reads_count left faults old.settings old.queue t.queue i0 i1 reads).0);
         };
         ready = can_group t u v g (change left faults i1 i2) pass can few read count same raw out kept alike buffer;
@@ -240,7 +239,7 @@ module _ {S : Type 0} (left : S → Option (List ℕ)) (faults : S → ℕ) wher
   next_due old t u v None i0 i1 i2 passes reads can settings few read rises count same raw out kept alike buffer some = absurd (true_false true refl (sym some))
 
   -- no group was due
-  pub next_on : (old t u v : Intake) (next : Option GroupJobs) (i0 i1 i2 : S) → Passes old.settings → ReadsOn left faults old.settings old.queue t.queue i0 i1 → CanRead t → t.settings ≡ old.settings
+  pub next_on : (old t u v : Intake) (next : Option MeasuredGroup) (i0 i1 i2 : S) → Passes old.settings → ReadsOn left faults old.settings old.queue t.queue i0 i1 → CanRead t → t.settings ≡ old.settings
       → t.count < most_frames → FrameRead t.settings t.queue u.queue (change left faults i1 i2) → faults i1 ≤ faults i2
       → u.count ≡ t.count + 1 → u.settings ≡ t.settings → vec_len u.raw ≡ frame_bytes (dims_of u.settings) → IfNone next ((is_due u.queue ≡ false) × (v ≡ u)) → is_some next ≡ false
       → ReadsOn left faults old.settings old.queue v.queue i0 i2 × CanRead v
@@ -253,16 +252,16 @@ module _ {S : Type 0} (left : S → Option (List ℕ)) (faults : S → ℕ) wher
 -- ---- from group to group
 
 -- how many groups can come yet, at most
-abbrev pub turns_left : Option GroupJobs → ℕ → ℕ
+abbrev pub turns_left : Option MeasuredGroup → ℕ → ℕ
 turns_left (Some g) count = 1000000 - count
 turns_left None count = 0
 
-pub turns_fall : (next : Option GroupJobs) (a b : ℕ) → a ≤ most_frames → (is_some next ≡ true → a < b) → turns_left next b < 1000000 - a
+pub turns_fall : (next : Option MeasuredGroup) (a b : ℕ) → a ≤ most_frames → (is_some next ≡ true → a < b) → turns_left next b < 1000000 - a
 turns_fall (Some g) a b most more = omega (arith, more refl, most)
 turns_fall None a b most more = omega (arith, most)
 
 -- A coder stands where a group was handed out, or none will be before the end; the frames up to there were read.
-pub record Waits (s : Settings) (c : Coder) (last : Queue Samples) (next : Option GroupJobs) (left held recon : Change) : Type 0 where
+pub record Waits (s : Settings) (c : Coder) (last : Queue Samples) (next : Option MeasuredGroup) (left held recon : Change) : Type 0 where
   pub queue : Queue Samples
   pub far : SoFar s c queue left held recon
   pub sound : IsSoundQueue queue
@@ -293,15 +292,15 @@ waits_last s c last left held recon w = (
   λ few. w.out.end (subst (λ (q : Queue Samples). q.pushed < most_frames) w.out.same few),
 )
 
-pub waits_code : (s : Settings) (c : Coder) (last : Queue Samples) (g : GroupJobs) (left held recon : Change) → (w : Waits s c last (Some g) left held recon)
-    → GoesOn c (is_some g.before) × CanCode s g
+pub waits_code : (s : Settings) (c : Coder) (last : Queue Samples) (g : MeasuredGroup) (left held recon : Change) → (w : Waits s c last (Some g) left held recon)
+    → GoesOn c (is_some g.group.before) × CanCode s g
 unfolding HandsOut
 waits_code s c last g left held recon w = (
-  subst (λ (o : Option ℕ). GoesOn c (is_some o)) (sym (before_is w.queue g.before (ap (λ (x : Group Samples). x.before) w.out.is))) w.goes,
+  subst (λ (o : Option ℕ). GoesOn c (is_some o)) (sym (before_is w.queue g.group.before (ap (λ (x : Group Samples). x.before) w.out.is))) w.goes,
   w.out.group,
 )
 
-pub out_pushed : (s : Settings) (q last : Queue Samples) (left : Option (List ℕ)) (next : Option GroupJobs) → HandsOut s q last left next → last.pushed ≡ q.pushed
+pub out_pushed : (s : Settings) (q last : Queue Samples) (left : Option (List ℕ)) (next : Option MeasuredGroup) → HandsOut s q last left next → last.pushed ≡ q.pushed
 unfolding HandsOut
 out_pushed s q last left (Some g) out = ap (λ (x : Queue Samples). x.pushed) out.after
 out_pushed s q last left None out = ap (λ (x : Queue Samples). x.pushed) out.same
@@ -318,7 +317,7 @@ module _ {S K N : Type 0} (left : S → Option (List ℕ)) (input_faults : S →
   recon = change kept recon_faults
 
   -- frames were read up to the next group
-  pub waits_reads : (s : Settings) (c : Coder) (q last : Queue Samples) (next : Option GroupJobs) (i0 i1 i2 : S) (o0 o1 : K) (r0 r1 : N)
+  pub waits_reads : (s : Settings) (c : Coder) (q last : Queue Samples) (next : Option MeasuredGroup) (i0 i1 i2 : S) (o0 o1 : K) (r0 r1 : N)
       → SoFar s c q (input i0 i1) (output o0 o1) (recon r0 r1) → IsSoundQueue q → GoesOn c (is_some (anchor_before (first_of q)))
       → c.total.pictures + 126 * length q.frames ≤ 126 * q.pushed → c.total.bytes ≤ 2 ^ 21 * c.total.pictures → c.total.stuffing ≤ c.total.bytes
       → Comes left input_faults s q last i1 i2 next → Waits s c last next (input i0 i2) (output o0 o1) (recon r0 r1)
@@ -336,8 +335,8 @@ module _ {S K N : Type 0} (left : S → Option (List ℕ)) (input_faults : S →
         stuffing = stuffing;
       }
 
-  behind_group : (s : Settings) (c d : Coder) (last : Queue Samples) (g : GroupJobs) (i0 i1 : S) (o0 o1 o2 : K) (r0 r1 r2 : N) → Passes s
-      → (w : Waits s c last (Some g) (input i0 i1) (output o0 o1) (recon r0 r1)) → GroupCoded c d (book_by c (handed g)) false (output o1 o2) (recon r1 r2)
+  behind_group : (s : Settings) (c d : Coder) (last : Queue Samples) (g : MeasuredGroup) (i0 i1 : S) (o0 o1 o2 : K) (r0 r1 r2 : N) → Passes s
+      → (w : Waits s c last (Some g) (input i0 i1) (output o0 o1) (recon r0 r1)) → GroupCoded c d (book_by c (handed g.group)) false (output o1 o2) (recon r1 r2)
       → GroupCoded c d (book_by c (group_of w.queue)) false (output o1 o2) (recon r1 r2) × SoFar s d last (input i0 i1) (output o0 o2) (recon r0 r2)
   unfolding HandsOut
   behind_group s c d last g i0 i1 o0 o1 o2 r0 r1 r2 passes w coded =
@@ -345,8 +344,8 @@ module _ {S K N : Type 0} (left : S → Option (List ℕ)) (input_faults : S →
       (same, so_far_group left input_faults held output_faults kept recon_faults s c d w.queue last i0 i1 o0 o1 o2 r0 r1 r2 passes w.sound w.out.due w.far w.out.after same)
 
   -- the group was coded, and frames were read up to the one behind it
-  pub waits_group : (s : Settings) (c d : Coder) (last after : Queue Samples) (g : GroupJobs) (next : Option GroupJobs) (i0 i1 i2 : S) (o0 o1 o2 : K) (r0 r1 r2 : N) → Passes s
-      → Waits s c last (Some g) (input i0 i1) (output o0 o1) (recon r0 r1) → IsSoundQueue last → GroupCoded c d (book_by c (handed g)) false (output o1 o2) (recon r1 r2)
+  pub waits_group : (s : Settings) (c d : Coder) (last after : Queue Samples) (g : MeasuredGroup) (next : Option MeasuredGroup) (i0 i1 i2 : S) (o0 o1 o2 : K) (r0 r1 r2 : N) → Passes s
+      → Waits s c last (Some g) (input i0 i1) (output o0 o1) (recon r0 r1) → IsSoundQueue last → GroupCoded c d (book_by c (handed g.group)) false (output o1 o2) (recon r1 r2)
       → GoesOn d true → d.total.bytes ≤ 2 ^ 21 * d.total.pictures → d.total.stuffing ≤ d.total.bytes → Comes left input_faults s last after i1 i2 next
       → Waits s d after next (input i0 i2) (output o0 o2) (recon r0 r2)
   unfolding HandsOut
@@ -359,9 +358,9 @@ module _ {S K N : Type 0} (left : S → Option (List ℕ)) (input_faults : S →
       (omega (arith, few, ap (λ (q : Queue Samples). length q.frames) w.out.after, ap (λ (q : Queue Samples). q.pushed) w.out.after)) bytes stuffing comes
 
   -- the group wasn't coded, or the frames behind it weren't read
-  pub waits_stopped : (s : Settings) (c d : Coder) (t : Intake) (g : GroupJobs) (i0 i1 i2 : S) (o0 o1 o2 : K) (r0 r1 r2 : N) (e : EncodeError) → Passes s → 0 < frame_bytes (dims_of s)
+  pub waits_stopped : (s : Settings) (c d : Coder) (t : Intake) (g : MeasuredGroup) (i0 i1 i2 : S) (o0 o1 o2 : K) (r0 r1 r2 : N) (e : EncodeError) → Passes s → 0 < frame_bytes (dims_of s)
       → t.settings ≡ s → input_faults i0 ≤ input_faults i1 → output_faults o0 ≤ output_faults o1 → recon_faults r0 ≤ recon_faults r1
-      → Waits s c t.queue (Some g) (input i0 i1) (output o0 o1) (recon r0 r1) → BesideStops left input_faults (book_by c (handed g)) c d t i1 i2 (output o1 o2) (recon r1 r2) e
+      → Waits s c t.queue (Some g) (input i0 i1) (output o0 o1) (recon r0 r1) → BesideStops left input_faults (book_by c (handed g.group)) c d t i1 i2 (output o1 o2) (recon r1 r2) e
       → Stops s (input i0 i2) (output o0 o2) (recon r0 r2) e
   unfolding HandsOut
   waits_stopped s c d t g i0 i1 i2 o0 o1 o2 r0 r1 r2 e passes size same fi fo fr w (inl h) =

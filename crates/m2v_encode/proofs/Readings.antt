@@ -10,11 +10,11 @@ use Rattle.m2v_plane.specs.Raw.{frame_bytes, raw, pad}
 use Rattle.m2v_plane.specs.Samples.{Samples}
 use Rattle.m2v_set.specs.declared.settings.Settings.{Settings}
 use Rattle.m2v_set.specs.Numbers.{dims_of}
-use Rattle.m2v_order.specs.declared.jobs.GroupJobs.{GroupJobs}
 use Rattle.m2v_order.specs.Groups.{Queue, first_of, followed, IsSoundQueue}
 use Rattle.m2v_encode.specs.declared.answer.EncodeError.{EncodeError}
 use Rattle.m2v_encode.specs.declared.answer.EncodeError.TheVariants.{Read, Write, ShortFrame, NoFrames, TooManyFrames, Memory}
 use Rattle.m2v_encode.specs.declared.intake.Intake.{Intake}
+use Rattle.m2v_encode.specs.declared.measured.MeasuredGroup.{MeasuredGroup}
 use Rattle.m2v_encode.specs.Answers.{AreWhole, most_frames}
 use Rattle.m2v_encode.specs.Steps.{FrameRead, FrameStops, ReadsOn, ReadsNext, ReadAhead}
 use Rattle.m2v_encode.proofs.Fronts.{followed_on, push_is, no_more, going_is}
@@ -131,7 +131,7 @@ module _ {S : Type 0} (left : S → Option (List ℕ)) (faults : S → ℕ) wher
         (moved_all (left i0) (left i1) (left i2) reads.frames (h.frame ∷ []) reads.moved (subst (λ (b : List ℕ). Moves (left i1) b (left i2)) (sym (raw_one h.frame)) h.moved));
   }
 
-  pub ahead_is : (old new : Intake) (i0 i1 : S) (result : Result (Option GroupJobs) EncodeError) → 0 < frame_bytes (dims_of old.settings) → ReadsNext left faults old new i0 i1 result
+  pub ahead_is : (old new : Intake) (i0 i1 : S) (result : Result (Option MeasuredGroup) EncodeError) → 0 < frame_bytes (dims_of old.settings) → ReadsNext left faults old new i0 i1 result
       → ReadAhead left faults old.settings old.queue i0 i1
   ahead_is old new i0 i1 (Ok next) size read = let came = read.ok in ahead_frames old.settings old.queue came.queue i0 i1 size came.most came.reads
   ahead_is old new i0 i1 (Err e) size read =

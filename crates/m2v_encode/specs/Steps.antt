@@ -7,20 +7,23 @@ use Rattle.m2v_plane.specs.Raw.{frame_bytes, raw, pad}
 use Rattle.m2v_plane.specs.Samples.{Samples}
 use Rattle.m2v_set.specs.declared.settings.Settings.{Settings}
 use Rattle.m2v_set.specs.Numbers.{dims_of}
+use Rattle.m2v_set.specs.Rules.{is_even}
 use Rattle.m2v_order.specs.declared.jobs.PictureJob.{PictureJob}
-use Rattle.m2v_order.specs.declared.jobs.GroupJobs.{GroupJobs}
 use Rattle.m2v_order.specs.Groups.{Queue, Group, is_due, group_of, after_push, after_group, followed, IsSoundQueue}
 use Rattle.m2v_order.specs.Whole.{IsGroupOf, handed}
 use Rattle.m2v_order.specs.Times.{intervals_of}
 use Rattle.m2v_rate.specs.Plans.{account_at, begun}
+use Rattle.m2v_rate.specs.Sharing.{IsPictureActivity}
 use Rattle.m2v_rate.specs.Steady.{IsSteady}
-use Rattle.m2v_slice.specs.Books.{Book, picture_activities}
+use Rattle.m2v_enc_activity.specs.Activity.{IsActivity}
+use Rattle.m2v_slice.specs.Books.{Book, macroblock_activities, picture_activities}
 use Rattle.m2v_law_shown.specs.m2v_enc_stream.Streams.{Progress, at_start, groups_begun, groups_from, waiting, zeros_sum}
 use Rattle.m2v_encode.specs.declared.answer.Summary.{Summary}
 use Rattle.m2v_encode.specs.declared.answer.EncodeError.{EncodeError}
 use Rattle.m2v_encode.specs.declared.answer.EncodeError.TheVariants.{Read, Write, ShortFrame, NoFrames, TooManyFrames, Memory}
 use Rattle.m2v_encode.specs.declared.group.Coder.{Coder}
 use Rattle.m2v_encode.specs.declared.intake.Intake.{Intake}
+use Rattle.m2v_encode.specs.declared.measured.MeasuredGroup.{MeasuredGroup}
 use Rattle.m2v_encode.specs.Answers.{AreWhole, most_frames}
 use Rattle.m2v_encode.specs.Groups.{whole_ledger, group_text, group_shown, anchor_behind, IsPlace}
 
@@ -90,11 +93,15 @@ pub record GoesOn (c : Coder) (coded : Bool) : Type 0 where
   pub before : is_some c.before ≡ coded
   pub size : IfSome c.before (λ f. f.dims ≡ dims_of c.settings)
 
--- a group that was handed out can be coded
-pub record CanCode (s : Settings) (g : GroupJobs) : Type 0 where
-  pub group : IsGroupOf s (handed g)
-  pub sizes : All (λ (f : Samples). f.dims ≡ dims_of s) g.frames.items
-  pub early : All (λ (j : PictureJob). j.display < 1000000) g.pictures.items
+-- a group that was handed out can be coded: the activities are its own
+pub record CanCode (s : Settings) (m : MeasuredGroup) : Type 0 where
+  pub group : IsGroupOf s (handed m.group)
+  pub sizes : All (λ (f : Samples). f.dims ≡ dims_of s) m.group.frames.items
+  pub early : All (λ (j : PictureJob). j.display < 1000000) m.group.pictures.items
+  pub macroblocks : m.active.macroblocks.items ≡ macroblock_activities s m.group.frames.items m.group.pictures.items
+  pub pictures : m.active.pictures.items ≡ picture_activities s m.group.frames.items m.group.pictures.items
+  pub range : All IsActivity m.active.macroblocks.items
+  pub sums : is_even s.planning ≡ true → All IsPictureActivity m.active.pictures.items
 
 -- a group was coded, and its bytes and frames written
 pub record GroupCoded (old new : Coder) (b : Book) (ends : Bool) (held recon : Change) : Type 0 where
@@ -173,11 +180,11 @@ pub record CanRead (t : Intake) : Type 0 where
   pub rest : is_due t.queue ≡ false
 
 -- a group was handed out of a queue, and can be coded
-pub record GroupOut (s : Settings) (old new : Queue Samples) (g : GroupJobs) : Type 0 where
+pub record GroupOut (s : Settings) (old new : Queue Samples) (m : MeasuredGroup) : Type 0 where
   pub due : is_due old ≡ true
-  pub is : handed g ≡ group_of old
+  pub is : handed m.group ≡ group_of old
   pub after : new ≡ after_group old
-  pub group : CanCode s g
+  pub group : CanCode s m
 
 -- the last frame was read: the input has ended, or it had the most frames
 pub record NoneOut (old new : Queue Samples) (left : Option (List ℕ)) : Type 0 where
@@ -186,8 +193,8 @@ pub record NoneOut (old new : Queue Samples) (left : Option (List ℕ)) : Type 0
   pub end : old.pushed < most_frames → IsAtEnd left
 
 -- the group that is due was handed out, or none will be before the end
-unfoldable pub HandsOut : Settings → Queue Samples → Queue Samples → Option (List ℕ) → Option GroupJobs → Type 0
-HandsOut s old new left (Some g) = GroupOut s old new g
+unfoldable pub HandsOut : Settings → Queue Samples → Queue Samples → Option (List ℕ) → Option MeasuredGroup → Type 0
+HandsOut s old new left (Some m) = GroupOut s old new m
 HandsOut s old new left None = NoneOut old new left
 
 -- more than the most frames are there
@@ -208,7 +215,7 @@ module _ {S : Type 0} (left : S → Option (List ℕ)) (faults : S → ℕ) wher
     pub rises : faults i0 ≤ faults i1
 
   -- frames were read up to the next group, which is handed out, or to the last frame
-  pub record Comes (s : Settings) (old new : Queue Samples) (i0 i1 : S) (next : Option GroupJobs) : Type 0 where
+  pub record Comes (s : Settings) (old new : Queue Samples) (i0 i1 : S) (next : Option MeasuredGroup) : Type 0 where
     pub queue : Queue Samples
     pub reads : ReadsOn s old queue i0 i1
     pub most : queue.pushed ≤ most_frames
@@ -227,7 +234,7 @@ module _ {S : Type 0} (left : S → Option (List ℕ)) (faults : S → ℕ) wher
     pub stops : FrameStops s (change left faults between i2) e
 
   -- what reading up to the next group answers
-  pub record ReadsNext (old new : Intake) (i0 i1 : S) (result : Result (Option GroupJobs) EncodeError) : Type 0 where
+  pub record ReadsNext (old new : Intake) (i0 i1 : S) (result : Result (Option MeasuredGroup) EncodeError) : Type 0 where
     pub ok : IfOk result (Comes old.settings old.queue new.queue i0 i1)
     pub ready : OnOk result (CanRead new)
     pub err : IfErr result (ReadingStops old.settings old.queue i0 i1)

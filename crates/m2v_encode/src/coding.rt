@@ -13,10 +13,11 @@ use crate::crew::Crew;
 use crate::done::DoneGroup;
 use crate::group::Coder;
 use crate::intake::Intake;
+use crate::measured::{MeasuredGroup, measured};
 use crate::pictures::put_bytes;
 use crate::ready::ReadyGroup;
 use m2v_board::Gate;
-use m2v_order::{GroupJobs, Reorder};
+use m2v_order::Reorder;
 use m2v_port::{Sink, Source};
 use m2v_set::Passed;
 use std::sync::Wait;
@@ -31,7 +32,7 @@ fn work_and_read<R: Threads + Wait + Sync, S: Source, G: Gate + Sync>(
     ready: ReadyGroup,
     intake: &mut Intake,
     input: &mut S,
-) -> (DoneGroup, Result<Option<GroupJobs>, EncodeError>)
+) -> (DoneGroup, Result<Option<MeasuredGroup>, EncodeError>)
     requires ready { IsReady ready }
     requires reads { CanRead intake.old }
     ensures done { result.0 ≡ ready.book }
@@ -48,21 +49,21 @@ impl Coder {
     fn code_beside<R: Threads + Wait + Sync, S: Source, K: Sink, N: Sink, G: Gate + Sync>(
         &mut self,
         crew: &Crew<R, G>,
-        group: GroupJobs,
+        group: MeasuredGroup,
         intake: &mut Intake,
         input: &mut S,
         output: &mut K,
         recon: &mut N,
-    ) -> Result<Option<GroupJobs>, EncodeError>
+    ) -> Result<Option<MeasuredGroup>, EncodeError>
         requires room { HasRoom self.old }
-        requires going { GoesOn self.old (is_some group.before) }
+        requires going { GoesOn self.old (is_some group.group.before) }
         requires few { IsFew self.old.total }
         requires group { CanCode self.old.settings group }
         requires reads { CanRead intake.old }
         requires output { IsTrue (K.ready output.old) }
         requires recon { IsTrue (N.ready recon.old) }
         requires unshown { self.old.shown ≡ false → N.held recon.old ≡ None }
-        ensures coded { OnOk result (GroupCoded self.old self.new (book_by self.old (handed group))
+        ensures coded { OnOk result (GroupCoded self.old self.new (book_by self.old (handed group.group))
             false
             (change K.held K.faults output.old output.new)
             (change N.held N.faults recon.old recon.new)) }
@@ -73,7 +74,7 @@ impl Coder {
             intake.new.queue input.old input.new) }
         ensures reads { OnOk result (CanRead intake.new) }
         ensures err { IfErr result (BesideStops S.left S.faults
-            (book_by self.old (handed group)) self.old self.new intake.old input.old input.new
+            (book_by self.old (handed group.group)) self.old self.new intake.old input.old input.new
             (change K.held K.faults output.old output.new)
             (change N.held N.faults recon.old recon.new)) }
         ensures room { HasRoom self.new }
@@ -99,25 +100,25 @@ impl Coder {
     fn code_last<R: Threads + Wait + Sync, K: Sink, N: Sink, G: Gate + Sync>(
         &mut self,
         crew: &Crew<R, G>,
-        group: GroupJobs,
+        group: MeasuredGroup,
         output: &mut K,
         recon: &mut N,
     ) -> Result<(), EncodeError>
         requires room { HasRoom self.old }
-        requires going { GoesOn self.old (is_some group.before) }
+        requires going { GoesOn self.old (is_some group.group.before) }
         requires few { IsFew self.old.total }
         requires group { CanCode self.old.settings group }
         requires output { IsTrue (K.ready output.old) }
         requires recon { IsTrue (N.ready recon.old) }
         requires unshown { self.old.shown ≡ false → N.held recon.old ≡ None }
-        ensures coded { OnOk result (GroupCoded self.old self.new (book_by self.old (handed group))
+        ensures coded { OnOk result (GroupCoded self.old self.new (book_by self.old (handed group.group))
             true
             (change K.held K.faults output.old output.new)
             (change N.held N.faults recon.old recon.new)) }
         ensures few { OnOk result ((self.new.total.bytes ≤ 2 ^ 21 * self.new.total.pictures)
             × (self.new.total.stuffing ≤ self.new.total.bytes)) }
         ensures err { IfErr result
-            (GroupStops (book_by self.old (handed group)) true (8 * self.old.total.bytes)
+            (GroupStops (book_by self.old (handed group.group)) true (8 * self.old.total.bytes)
             (change K.held K.faults output.old output.new)
             (change N.held N.faults recon.old recon.new)) }
         ensures output { SinkStays K.ready K.name K.faults output.old output.new }
@@ -162,7 +163,10 @@ impl Coder {
         queue.end();
         match queue.next_group(crew.alloc) {
             Ok(Some(group)) => {
-                self.code_last(crew, group, output, recon)?;
+                let Ok(last) = measured(crew.alloc, &self.settings, group) else {
+                    return Err(EncodeError::Memory);
+                };
+                self.code_last(crew, last, output, recon)?;
                 put_bytes(&END, output)?;
                 self.total.bytes += 4;
                 self.total.frames = frames;

@@ -17,14 +17,15 @@ ghost use Rattle.m2v_encode.specs.Steps.{HasRoom, IsFew, GoesOn, GroupCoded, Gro
 use crate::answer::{EncodeError, Summary};
 use crate::done::DoneGroup;
 use crate::kept::{KeptPosts, bench_for};
+use crate::measured::MeasuredGroup;
 use crate::ready::ReadyGroup;
 use m2v_bits::BitWriter;
-use m2v_order::{GroupJobs, PictureJob, intervals};
+use m2v_order::{PictureJob, intervals};
 use m2v_plane::{Frame, Memory, bytes_of};
 use m2v_port::Sink;
 use m2v_rate::Ledger;
 use m2v_set::{Passed, Scan};
-use m2v_slice::{EncodeBook, GroupActivities, source_activities};
+use m2v_slice::{EncodeBook, GroupActivities};
 use std::alloc::Global;
 
 /// Room for the headers of a picture.
@@ -150,12 +151,16 @@ impl Coder {
     }
 
     /// Makes a book of the group, and a bench for its jobs.
-    pub(crate) fn prepare(&mut self, alloc: Global, group: GroupJobs) -> Result<ReadyGroup, Memory>
-        requires going { GoesOn self.old (is_some group.before) }
+    pub(crate) fn prepare(
+        &mut self,
+        alloc: Global,
+        group: MeasuredGroup,
+    ) -> Result<ReadyGroup, Memory>
+        requires going { GoesOn self.old (is_some group.group.before) }
         requires few { IsFew self.old.total }
         requires group { CanCode self.old.settings group }
         requires kept { IfSome self.old.kept (λ s. s ≡ self.old.settings) }
-        ensures value { IfOk result (λ r. r.book ≡ book_by self.old (handed group)) }
+        ensures value { IfOk result (λ r. r.book ≡ book_by self.old (handed group.group)) }
         ensures ready { IfOk result IsReady }
         ensures settings { self.new.settings ≡ self.old.settings }
         ensures shown { self.new.shown ≡ self.old.shown }
@@ -164,14 +169,14 @@ impl Coder {
         ensures headers { self.new.headers ≡ self.old.headers }
         ensures kept { IfSome self.new.kept (λ s. s ≡ self.new.settings) }
     {
-        let pictures = copy_of(alloc, &group.pictures)?;
-        let frames = group.frames.len() as u32;
-        let rows = rows_of(&self.settings);
-        let active = source_activities(alloc, &self.settings, &group)?;
+        let MeasuredGroup { group, active } = group;
         let GroupActivities {
             macroblocks,
             pictures: sums,
         } = active;
+        let pictures = copy_of(alloc, &group.pictures)?;
+        let frames = group.frames.len() as u32;
+        let rows = rows_of(&self.settings);
         let times = self.begin_group(alloc, group.before, &pictures, &sums)?;
         let before = self.before.take();
         let book = EncodeBook::for_group(

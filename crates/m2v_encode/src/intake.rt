@@ -8,8 +8,9 @@ ghost use Rattle.m2v_order.specs.Groups.{opening, is_due, after_push, IsSoundQue
 ghost use Rattle.m2v_encode.specs.Steps.{ReadStops, FrameRead, NoneRead, FrameStops, CanRead, GroupOut, ReadsNext, WentPast};
 
 use crate::answer::EncodeError;
+use crate::measured::{MeasuredGroup, measured};
 use crate::reading::{goes_on, read_bytes};
-use m2v_order::{GroupJobs, Reorder};
+use m2v_order::Reorder;
 use m2v_plane::{Frame, Memory, bytes_of};
 use m2v_port::Source;
 use m2v_set::Passed;
@@ -114,19 +115,23 @@ impl Intake {
         Ok(true)
     }
 
-    /// Hands out the group that is due, if one is.
-    fn due(&mut self, alloc: Global) -> Result<Option<GroupJobs>, Memory>
+    /// Hands out the group that is due, if one is, with its activities.
+    fn due(&mut self, alloc: Global) -> Result<Option<MeasuredGroup>, Memory>
+        requires settings { self.old.queue.settings ≡ self.old.settings }
         requires sound { IsSoundQueue self.old.queue }
         requires few { self.old.queue.pushed < 1000000 }
         ensures some { IfOk result (λ o. IfSome o
-            (GroupOut self.old.queue.settings self.old.queue self.new.queue)) }
+            (GroupOut self.old.settings self.old.queue self.new.queue)) }
         ensures none { IfOk result (λ o. IfNone o
             ((is_due self.old.queue ≡ false) × (self.new ≡ self.old))) }
         ensures settings { self.new.settings ≡ self.old.settings }
         ensures raw { self.new.raw ≡ self.old.raw }
         ensures count { self.new.count ≡ self.old.count }
     {
-        self.queue.next_group(alloc)
+        match self.queue.next_group(alloc)? {
+            Some(group) => Ok(Some(measured(alloc, &self.settings, group)?)),
+            None => Ok(None),
+        }
     }
 
     /// Reads frame after frame until a group is due, and hands that out; none where the input has ended or has had the most
@@ -135,7 +140,7 @@ impl Intake {
         &mut self,
         alloc: Global,
         input: &mut S,
-    ) -> Result<Option<GroupJobs>, EncodeError>
+    ) -> Result<Option<MeasuredGroup>, EncodeError>
         requires ready { CanRead self.old }
         ensures reads { ReadsNext S.left S.faults self.old self.new input.old input.new result }
         ensures behind { S.behind input.old ≤ S.behind input.new }

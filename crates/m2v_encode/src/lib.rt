@@ -14,6 +14,7 @@ mod frames;
 mod group;
 mod intake;
 mod kept;
+mod measured;
 mod pictures;
 mod reading;
 mod ready;

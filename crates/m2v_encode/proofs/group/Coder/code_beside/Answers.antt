@@ -24,7 +24,7 @@ pub put_group-requires-clause-place : goal.put_group-requires-clause-place
 put_group-requires-clause-place g c =
     let b = c.work_and_read-done.result.0 in
     subst (λ (t : Summary). IsPlace b.settings (account_at (whole_ledger b) 0) (8 * t.bytes)) (sym c.prepare.ensures.total)
-    (first_place c.args.self.now (handed c.args.group) b _ (c.work_and_read-done.ensures.done ∙ c.in-Ok.ensures.value) c.requires.going)
+    (first_place c.args.self.now (handed c.args.group.group) b _ (c.work_and_read-done.ensures.done ∙ c.in-Ok.ensures.value) c.requires.going)
 
 pub returns-in_err-put_group-clause-err : goal.returns-in_err-put_group-clause-err
 returns-in_err-put_group-clause-err g c =
@@ -47,7 +47,7 @@ returns-clause-going g c =
     let coded = c.in_ok-put_group.ensures.coded in
     let b = c.work_and_read-done.result.0 in
     on_ok c.work_and_read-done.result.1
-    (goes_on c.args.self.now c.put_group.new.self (handed c.args.group) b _ c.put_group.ensures.book (c.work_and_read-done.ensures.done ∙ c.in-Ok.ensures.value) c.requires.going
+    (goes_on c.args.self.now c.put_group.new.self (handed c.args.group.group) b _ c.put_group.ensures.book (c.work_and_read-done.ensures.done ∙ c.in-Ok.ensures.value) c.requires.going
     (coded.settings ∙ c.prepare.ensures.settings) coded.ledger coded.before (coded.pictures ∙ ap (λ (t : Summary). t.pictures + length b.pictures) c.prepare.ensures.total)
     (c.in_ok-put_group.ensures.place refl))
 

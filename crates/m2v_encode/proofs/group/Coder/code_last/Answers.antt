@@ -14,7 +14,7 @@ pub put_group-requires-clause-place : goal.put_group-requires-clause-place
 put_group-requires-clause-place g c =
     let b = c.work-done.result in
     subst (λ (t : Summary). IsPlace b.settings (account_at (whole_ledger b) 0) (8 * t.bytes)) (sym c.prepare.ensures.total)
-    (first_place c.args.self.now (handed c.args.group) b _ (c.work-done.ensures.done ∙ c.in-Ok.ensures.value) c.requires.going)
+    (first_place c.args.self.now (handed c.args.group.group) b _ (c.work-done.ensures.done ∙ c.in-Ok.ensures.value) c.requires.going)
 
 pub returns-clause-coded : goal.returns-clause-coded
 returns-clause-coded g c =

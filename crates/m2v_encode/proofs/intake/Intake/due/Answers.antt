@@ -1,7 +1,10 @@
-use Rattle.m2v_encode.proofs.Due.{due_out}
+use Rattle.std.proofs.Common.{refl}
+use Rattle.m2v_encode.proofs.Due.{early_is, group_out}
 use Rattle.m2v_encode.proofs.intake.Intake.due.Goals as goal
 
-pub returns-clause-some : goal.returns-clause-some
-returns-clause-some c =
-    let h = c.next_group.ensures in
-    due_out _ _ c.next_group.result c.requires.sound c.requires.few h.due h.frames h.pictures h.before h.group h.places h.size h.rest
+pub measured-requires-clause-early : goal.measured-requires-clause-early
+measured-requires-clause-early c =
+    let h = c.in_ok-group.ensures in
+    let is = c.in-Some.is in
+    early_is c.args.self.now.queue c.in-Some.group.pictures.items c.in-Some.group.frames.items c.requires.sound c.requires.few (rw is at h.frames) (rw is at h.places)
+
