@@ -27,8 +27,6 @@ mod pred;
 #[cfg(test)]
 mod quant;
 #[cfg(test)]
-mod recon;
-#[cfg(test)]
 mod steps;
 #[cfg(test)]
 mod vlc;

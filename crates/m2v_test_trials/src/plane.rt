@@ -2,7 +2,7 @@ ghost use Rattle.std.specs.Prelude.{◌<◌};
 ghost use Rattle.m2v_plane.specs.Sizes.{lines_of};
 ghost use Rattle.m2v_plane.specs.Samples.{sample_in};
 
-use m2v_plane::{Dims, FieldView, Frame, Lines, Plane, RefView, RowSamples};
+use m2v_plane::{Dims, Frame, Lines, Plane, RefView, RowSamples};
 use std::test::Fail;
 
 /// Five samples by three, so that every plane is cut inside a macroblock and chroma is rounded up.
@@ -60,24 +60,8 @@ fn a_row_of_a_field(rt: HostRuntime) -> Result<(), Fail> {
     frame.set_row(Lines::Bottom, 0, &row);
     let view = Lender(frame);
     assert_eq!(rt; view.sample(Plane::Y, Lines::Bottom, 2, 3), 7);
-    assert_eq!(rt; view.sample(Plane::Cr, Lines::Top, 0, 1), 52);
     let mut part = [0; 3];
     view.copy_line(Plane::Y, Lines::Top, 0, 2, &mut part);
     assert_eq!(rt; part, [3, 4, 5]);
-    Ok(())
-}
-
-#[test]
-#[tactic(auto, unfolding(m2v_plane::specs::Fields::lines_there))]
-fn fields_of_two_frames(rt: HostRuntime) -> Result<(), Fail> {
-    let mut first = Frame::blank(rt.alloc(), SMALL)?;
-    first.set_square(Plane::Y, Lines::Top, 0, 0, &[7; 256]);
-    let second = Frame::blank(rt.alloc(), SMALL)?;
-    let view = FieldView::new(SMALL, Some(&first), Some(&second));
-    let mut part = [1; 2];
-    view.copy_line(Plane::Y, Lines::Top, 15, 14, &mut part);
-    assert_eq!(rt; part, [7, 7]);
-    view.copy_line(Plane::Y, Lines::Bottom, 15, 14, &mut part);
-    assert_eq!(rt; part, [0, 0]);
     Ok(())
 }
