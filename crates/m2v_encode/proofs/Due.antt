@@ -1,6 +1,6 @@
 -- A frame that was read, and why one wasn't; and the group that is due.
-use Rattle.std.proofs.Common.{◌≡◌, ℕ, ◌+◌, ◌*◌, ◌<◌, ◌≤◌, inl, true, List, length, take, drop, Option, Some, None, Result, Ok, Err, refl, ap, ◌∙◌, arith}
-use Rattle.std.specs.Prelude.{All, is_some, IsTrue, IsSome, IfSome, OnSome, IfOk, ◌↔◌}
+use Rattle.std.proofs.Common.{◌≡◌, ℕ, ◌+◌, ◌*◌, ◌<◌, ◌≤◌, inl, true, List, length, take, drop, Option, ap, ◌∙◌, arith}
+use Rattle.std.specs.Prelude.{All, is_some}
 use Rattle.std.proofs.Math.Nat.{mul-pos}
 use Rattle.std.proofs.lemmas.List.{take-append-drop, length-append}
 use Rattle.m2v_port.specs.Ends.{Change}
@@ -13,7 +13,7 @@ use Rattle.m2v_set.specs.Numbers.{dims_of}
 use Rattle.m2v_set.specs.Rules.{Passes}
 use Rattle.m2v_order.specs.declared.jobs.PictureJob.{PictureJob}
 use Rattle.m2v_order.specs.declared.jobs.GroupJobs.{GroupJobs}
-use Rattle.m2v_order.specs.Whole.{IsGroupOf, handed}
+use Rattle.m2v_order.specs.Whole.{handed}
 use Rattle.m2v_order.specs.Groups.{Queue, Group, first_of, is_due, group_size, group_of, anchor_before, after_group, IsSoundQueue}
 use Rattle.m2v_order.proofs.Queues.{grouped, due_is, turn_is}
 use Rattle.m2v_encode.specs.declared.measured.MeasuredGroup.{MeasuredGroup}

@@ -28,7 +28,7 @@ code_last-requires-clause-going g c = λ κs l.
     let h = c.in-Ok-Some.ensures in
     let is = c.in-Ok-Some.field-0-is in
     let out = group_out c.args.self.now.settings c.end.new.self c.next_group.new.self c.in-Ok-Some.group c.in-Ok.last ((rw is at h.due).0 refl) (rw is at h.frames) (rw is at h.pictures) (rw is at h.before) (rw is at h.rest)
-        c.in-Ok.ensures.group c.in-Ok.ensures.code in
+    c.in-Ok.ensures.group c.in-Ok.ensures.code in
     subst (λ (o : Option ℕ). GoesOn c.args.self.now (is_some o))
     (sym (before_is c.end.new.self c.in-Ok.last.group.before (ap (λ (x : Group Samples). x.before) out.is) ∙ ap (λ (q : Queue Samples). anchor_before (first_of q)) c.end.ensures.value)) c.requires.going
 
@@ -40,7 +40,7 @@ returns-in_err-code_last-in-Ok-Some-clause-err g c =
     let h = c.in-Ok-Some.ensures in
     let is = c.in-Ok-Some.field-0-is in
     let out = group_out c.args.self.now.settings c.end.new.self c.next_group.new.self c.in-Ok-Some.group c.in-Ok.last ((rw is at h.due).0 refl) (rw is at h.frames) (rw is at h.pictures) (rw is at h.before) (rw is at h.rest)
-        c.in-Ok.ensures.group c.in-Ok.ensures.code in
+    c.in-Ok.ensures.group c.in-Ok.ensures.code in
     rw (p.1, p.2)
     (end_group_by c.args.self.now c.end.new.self (after_end c.args.queue.now) (handed c.in-Ok.last.group) output recon _ c.end.ensures.value out.due out.is c.in_err-code_last-in-Ok-Some.ensures.err)
 
@@ -50,7 +50,7 @@ returns-in_err-put_bytes-in-Ok-Some-clause-err g c =
     let h = c.in-Ok-Some.ensures in
     let is = c.in-Ok-Some.field-0-is in
     let out = group_out c.args.self.now.settings c.end.new.self c.next_group.new.self c.in-Ok-Some.group c.in-Ok.last ((rw is at h.due).0 refl) (rw is at h.frames) (rw is at h.pictures) (rw is at h.before) (rw is at h.rest)
-        c.in-Ok.ensures.group c.in-Ok.ensures.code in
+    c.in-Ok.ensures.group c.in-Ok.ensures.code in
     rw (p.1, p.2)
     (end_put_by g.K.Sink.held g.K.Sink.faults g.N.Sink.held g.N.Sink.faults c.args.self.now c.code_last.new.self c.end.new.self (after_end c.args.queue.now) (handed c.in-Ok.last.group) _ _ _ _ _ _ _ c.end.ensures.value out.due out.is end_code
     c.code_last.ensures.output.counts c.in_ok-code_last-in-Ok-Some.ensures.coded c.in_err-put_bytes-in-Ok-Some.ensures.err)
@@ -60,7 +60,7 @@ returns-in_ok-put_bytes-in-Ok-Some-clause-coded g c =
     let h = c.in-Ok-Some.ensures in
     let is = c.in-Ok-Some.field-0-is in
     let out = group_out c.args.self.now.settings c.end.new.self c.next_group.new.self c.in-Ok-Some.group c.in-Ok.last ((rw is at h.due).0 refl) (rw is at h.frames) (rw is at h.pictures) (rw is at h.before) (rw is at h.rest)
-        c.in-Ok.ensures.group c.in-Ok.ensures.code in
+    c.in-Ok.ensures.group c.in-Ok.ensures.code in
     end_all_by g.K.Sink.held g.K.Sink.faults g.N.Sink.held g.N.Sink.faults c.args.frames c.args.self.now c.code_last.new.self c.end.new.self (after_end c.args.queue.now) (handed c.in-Ok.last.group) _ _ _ _ _ _ _ c.end.ensures.value out.is end_code
     c.in_ok-code_last-in-Ok-Some.ensures.coded c.in_ok-put_bytes-in-Ok-Some.ensures.grown refl
 
