@@ -63,8 +63,8 @@ impl Coder {
         requires output { IsTrue (K.ready output.old) }
         requires recon { IsTrue (N.ready recon.old) }
         requires unshown { self.old.shown ≡ false → N.held recon.old ≡ None }
-        ensures coded { OnOk result (GroupCoded self.old self.new (book_by self.old (handed group.group))
-            false
+        ensures coded { OnOk result (GroupCoded self.old self.new
+            (book_by self.old (handed group.group)) false
             (change K.held K.faults output.old output.new)
             (change N.held N.faults recon.old recon.new)) }
         ensures going { OnOk result (GoesOn self.new true) }
@@ -111,8 +111,8 @@ impl Coder {
         requires output { IsTrue (K.ready output.old) }
         requires recon { IsTrue (N.ready recon.old) }
         requires unshown { self.old.shown ≡ false → N.held recon.old ≡ None }
-        ensures coded { OnOk result (GroupCoded self.old self.new (book_by self.old (handed group.group))
-            true
+        ensures coded { OnOk result (GroupCoded self.old self.new
+            (book_by self.old (handed group.group)) true
             (change K.held K.faults output.old output.new)
             (change N.held N.faults recon.old recon.new)) }
         ensures few { OnOk result ((self.new.total.bytes ≤ 2 ^ 21 * self.new.total.pictures)
