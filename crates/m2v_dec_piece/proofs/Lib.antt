@@ -5,6 +5,7 @@ pub mod TrimLaws
 pub mod LimitLaws
 pub mod WholeLaws
 pub mod RunLaws
+pub mod SliceLaws
 pub mod Steps
 pub mod Stands
 pub mod AtOnce

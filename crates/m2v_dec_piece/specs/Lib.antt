@@ -1,6 +1,7 @@
 pub mod Cutting
 pub mod Following
 pub mod Reads
+pub mod Slices
 pub mod Sound
 pub mod Stepping
 pub mod Texts

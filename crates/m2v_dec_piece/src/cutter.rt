@@ -5,6 +5,7 @@ ghost use Rattle.m2v_dec_piece.specs.Sound.{IsSoundPiece, GoesOnward};
 ghost use Rattle.m2v_dec_piece.specs.Stepping.{Reaches, Turned, Rounded, Looked, Fails, Handed, Stopped, LastOf, Spends, Keeps};
 
 use crate::chunk::Chunk;
+use crate::cut_piece::CutPiece;
 use crate::hand::Hand;
 use crate::taking::{Byte, take};
 use crate::{DecodeError, Memory, Piece};
@@ -150,7 +151,7 @@ fn look_on<S: Source>(
 }
 
 /// The last piece of a text that has ended, where there is one.
-fn last(hand: &mut Hand, alloc: Global) -> Result<Option<Piece>, Memory>
+fn last(hand: &mut Hand, alloc: Global) -> Result<Option<CutPiece>, Memory>
     requires fits { Fits hand.old }
     ensures last { IfOk result (λ piece. LastOf piece hand.old hand.new) }
     ensures sound { IfOk result (λ piece. IfSome piece IsSoundPiece) }
@@ -218,16 +219,16 @@ impl Cutter {
         })
     }
 
-    /// The next piece of the text; None where none is left. After an error no call may follow.
+    /// The next piece of the text, with where its slices begin; None where none is left. After an error no call may follow.
     ///
     /// It answers TooLong where the piece, or the bytes before the first one, pass the first 2^36 bytes of the input, and
     /// PictureTooLarge where the piece passes 2,097,152 bytes up to its last byte that isn't zero: what comes first in
     /// the input counts.
-    pub fn next_piece<S: Source>(
+    pub fn next_cut<S: Source>(
         &mut self,
         alloc: Global,
         input: &mut S,
-    ) -> Result<Option<Piece>, DecodeError>
+    ) -> Result<Option<CutPiece>, DecodeError>
         requires { self.old.failed ≡ false }
         ensures ok { IfOk result (Handed self.old (S.left input.old) self.new (S.left input.new)) }
         ensures going { OnOk result (self.new.failed ≡ false) }
@@ -270,6 +271,35 @@ impl Cutter {
                 self.failed = false;
                 Ok(piece)
             }
+        }
+    }
+
+    /// The next piece alone, as `next_cut` tells it.
+    pub fn next_piece<S: Source>(
+        &mut self,
+        alloc: Global,
+        input: &mut S,
+    ) -> Result<Option<Piece>, DecodeError>
+        requires { self.old.failed ≡ false }
+        ensures ok { IfOk result (Handed self.old (S.left input.old) self.new (S.left input.new)) }
+        ensures going { OnOk result (self.new.failed ≡ false) }
+        ensures err { IfErr result (Stopped self.old (S.left input.old) (S.left input.new)) }
+        ensures kind { IfErr result IsReading }
+        ensures failed { IsErrOf result DecodeError.Read
+            → Rose (S.faults input.old) (S.faults input.new) }
+        ensures faults { S.faults input.old ≤ S.faults input.new }
+        ensures sound { IfOk result (λ piece. IfSome piece IsSoundPiece) }
+        ensures onward { IfOk result (λ piece. GoesOnward piece self.old.place self.new.place) }
+        ensures begun { IfOk result (λ piece. IfSome piece (λ p. self.new.begun ≡ true)) }
+        ensures taken { OnOk result
+            (Keeps self.old (S.left input.old) self.new (S.left input.new)) }
+        ensures over { IfOk result (λ piece. IfNone piece (self.new.ended ≡ true)) }
+        ensures most { self.old.place ≤ 2 ^ 36 }
+    {
+        match self.next_cut(alloc, input) {
+            Err(e) => Err(e),
+            Ok(None) => Ok(None),
+            Ok(Some(cut)) => Ok(Some(cut.into_piece())),
         }
     }
 

@@ -1,8 +1,10 @@
-ghost use Rattle.std.specs.Prelude.{◌≡◌, ◌↔◌, ◌+◌, ◌-◌, ◌≤◌, ◌<◌, ◌^◌, ◌++◌, ◌∷◌, [], length, take, replicate, min, IfOk, IfErr, OnOk, IsTrue, Ok, Err, None, false, nat_eq, true};
+ghost use Rattle.std.specs.Prelude.{◌≡◌, ◌↔◌, ◌+◌, ◌-◌, ◌≤◌, ◌<◌, ◌^◌, ◌++◌, ◌∷◌, [], length, take, replicate, min, IfOk, IfErr, OnOk, IsTrue, Ok, Err, None, false, nat_eq, true, if◌then◌else◌};
 ghost use Rattle.m2v_model.specs.Pieces.{limit, phase_after};
 ghost use Rattle.m2v_dec_piece.specs.Sound.{IsSoundPiece};
+ghost use Rattle.m2v_dec_piece.specs.Slices.{is_slice, OnlySlices, whole_of};
 ghost use Rattle.m2v_dec_piece.specs.Cutting.{Held, Fits, IsRun, TookAll, prefix, behind, limit_of, IsPiece, LimitErr, Took, StopsAt, PieceStops, pieces_behind, start_behind, code_of, phase_behind, GoesOn, Ends, FirstBegun, Finished, AtPiece};
 
+use crate::cut_piece::CutPiece;
 use crate::runs::{append_all, run_of};
 use crate::{DecodeError, Memory, Piece};
 use m2v_model::Phase;
@@ -19,6 +21,9 @@ const MOST_INPUT: u64 = 1 << 36;
 /// How many of the zero bytes that end a piece are handed on.
 const ZEROS: u64 = 64;
 
+/// More than the bytes of any piece: of none is it known that slices alone stand behind it.
+const UNKNOWN: u64 = u64::MAX;
+
 /// The prefix of a start code.
 const PREFIX: [u8; 3] = [0, 0, 1];
 
@@ -30,6 +35,8 @@ pub struct Hand {
     bytes: Vec<u8>,
     zeros: u64,
     ahead: u8,
+    /// How many bytes stand before all that is slices.
+    slices: u64,
 }
 
 impl Model for Hand {
@@ -37,6 +44,7 @@ impl Model for Hand {
     ghost use Rattle.m2v_model.specs.declared.phase.Phase.TheVariants.{Before, Picture};
     ghost use Rattle.m2v_model.specs.Pieces.{zeros_last};
     ghost use Rattle.m2v_dec_piece.specs.Cutting.{Held};
+    ghost use Rattle.m2v_dec_piece.specs.Slices.{IsSliced};
 
     ghost Value = { Held };
 
@@ -49,7 +57,8 @@ impl Model for Hand {
 
     ghost invariant = { λ h. (h.ahead ≤ 3) × (h.place + (length h.bytes.items + h.zeros) ≤ 2 ^ 36)
         × (zeros_last h.bytes.items ≡ 0) × (h.phase ≡ Before → length h.bytes.items + h.zeros ≡ 0)
-        × (h.phase ≡ Picture → 1 ≤ length h.bytes.items + h.zeros) };
+        × (h.phase ≡ Picture → 1 ≤ length h.bytes.items + h.zeros)
+        × IsSliced h.slices (h.bytes.items ++ replicate h.zeros 0) h.ahead };
 }
 
 /// Appends so many zero bytes, and a byte.
@@ -93,6 +102,17 @@ fn phase_of(phase: Phase, value: u8) -> Phase
     }
 }
 
+/// How many bytes stand before all that is slices, behind a unit: as many as before it, or all.
+fn slices_behind(value: u8, slices: u64, length: u64) -> u64
+    ensures { result ≡ (if is_slice value then slices else length) }
+{
+    if value >= 0x01 && value <= 0xAF {
+        slices
+    } else {
+        length
+    }
+}
+
 impl Hand {
     /// Before the first piece.
     #[tactic(auto, unfolding(m2v_model::specs::Pieces::zeros_first))]
@@ -105,6 +125,7 @@ impl Hand {
             bytes: Vec::new(alloc),
             zeros: 0,
             ahead: 0,
+            slices: 0,
         }
     }
 
@@ -142,13 +163,14 @@ impl Hand {
         self.place
     }
 
-    /// One byte more is sure.
-    #[tactic(auto, unfolding(crate::specs::Cutting::limit_in, m2v_model::specs::Pieces::limit, m2v_model::specs::Pieces::zeros_first))]
+    /// One byte more is sure. Whoever knows what stands around it sets where slices begin.
+    #[tactic(auto, using(crate::proofs::SliceLaws::unknown_sliced), unfolding(crate::specs::Cutting::limit_in, m2v_model::specs::Pieces::limit, m2v_model::specs::Pieces::zeros_first))]
     fn put(&mut self, b: u8) -> Result<(), DecodeError>
         ensures ok { OnOk result (self.new ≡ behind self.old (b ∷ [])) }
         ensures fits { OnOk result (limit_of self.old (b ∷ []) ≡ None) }
         ensures err { IfErr result (LimitErr (limit_of self.old (b ∷ []))) }
     {
+        self.slices = UNKNOWN;
         let at = self.bytes.len() as u64 + self.zeros;
         if self.place + at >= MOST_INPUT {
             return Err(DecodeError::TooLong);
@@ -209,6 +231,7 @@ impl Hand {
     /// Bytes in which no two zeros stand together are sure, where they don't end in one.
     #[tactic(auto, unfolding(m2v_model::specs::Pieces::zeros_first))]
     fn put_run(&mut self, run: &[u8]) -> Result<(), DecodeError>
+        requires ahead { self.old.ahead ≡ 0 }
         requires begun { self.old.phase ≡ Phase.Before → ⊥ }
         requires some { 0 < length run.now }
         requires run { IsRun run.now }
@@ -243,14 +266,11 @@ impl Hand {
         Ok(n)
     }
 
-    /// A byte that isn't the next one of a prefix: the prefix before it is none, and all of it is sure.
+    /// What stands of a prefix is sure, and a byte behind it.
     #[tactic(auto, using(crate::proofs::LimitLaws::settling))]
-    fn settle(&mut self, b: u8) -> Result<(), DecodeError>
+    fn put_behind(&mut self, b: u8) -> Result<(), DecodeError>
         requires ahead { self.old.ahead ≤ 2 }
-        requires some { nat_eq b 0 ≡ false }
-        requires none { self.old.ahead ≡ 2 → nat_eq b 1 ≡ false }
-        ensures ok { OnOk result
-            (self.new ≡ record (behind self.old (prefix self.old.ahead ++ b ∷ [])) { ahead = 0 }) }
+        ensures ok { OnOk result (self.new ≡ behind self.old (prefix self.old.ahead ++ b ∷ [])) }
         ensures fits { OnOk result (limit_of self.old (prefix self.old.ahead ++ b ∷ []) ≡ None) }
         ensures err { IfErr result
             (LimitErr (limit_of self.old (prefix self.old.ahead ++ b ∷ []))) }
@@ -262,8 +282,25 @@ impl Hand {
         }
         let mut bytes = [0; 3];
         bytes[ahead] = b;
-        self.put_all(&bytes[..ahead + 1])?;
+        self.put_all(&bytes[..ahead + 1])
+    }
+
+    /// A byte that isn't the next one of a prefix: the prefix before it is none, and all of it is sure.
+    fn settle(&mut self, b: u8) -> Result<(), DecodeError>
+        requires ahead { self.old.ahead ≤ 2 }
+        requires some { nat_eq b 0 ≡ false }
+        requires none { self.old.ahead ≡ 2 → nat_eq b 1 ≡ false }
+        requires fits { Fits self.old }
+        ensures ok { OnOk result
+            (self.new ≡ record (behind self.old (prefix self.old.ahead ++ b ∷ [])) { ahead = 0 }) }
+        ensures fits { OnOk result (limit_of self.old (prefix self.old.ahead ++ b ∷ []) ≡ None) }
+        ensures err { IfErr result
+            (LimitErr (limit_of self.old (prefix self.old.ahead ++ b ∷ []))) }
+    {
+        let slices = self.slices;
+        self.put_behind(b)?;
         self.ahead = 0;
+        self.slices = slices;
         Ok(())
     }
 
@@ -274,7 +311,14 @@ impl Hand {
         ensures ok { OnOk result (Took self.old 0 self.new) }
         ensures err { IfErr result (StopsAt self.old 0) }
     {
-        self.put(0)
+        let slices = self.slices;
+        match self.put(0) {
+            Ok(()) => {
+                self.slices = slices;
+                Ok(())
+            }
+            Err(e) => Err(e),
+        }
     }
 
     /// A byte that shows that the prefix before it is none.
@@ -324,13 +368,17 @@ impl Hand {
 
     /// A start code that belongs to the piece: its four bytes are sure.
     fn code(&mut self, value: u8) -> Result<(), DecodeError>
+        requires fits { Fits self.old }
         ensures ok { OnOk result
             (self.new ≡ record (behind self.old (code_of value)) { ahead = 0 }) }
         ensures fits { OnOk result (limit_of self.old (code_of value) ≡ None) }
         ensures err { IfErr result (LimitErr (limit_of self.old (code_of value))) }
     {
+        let slices = self.slices;
         self.put_all(&[0, 0, 1, value])?;
         self.ahead = 0;
+        let length = self.bytes.len() as u64 + self.zeros;
+        self.slices = slices_behind(value, slices, length);
         Ok(())
     }
 
@@ -373,6 +421,7 @@ impl Hand {
     }
 
     /// The input ends: what could begin a start code is sure.
+    #[tactic(auto, using(crate::proofs::SliceLaws::unknown_sliced))]
     pub fn finish(&mut self) -> Result<(), DecodeError>
         requires fits { Fits self.old }
         ensures ok { OnOk result (Finished self.old self.new) }
@@ -383,13 +432,14 @@ impl Hand {
         if ahead > 0 {
             self.put_all(&PREFIX[..ahead])?;
             self.ahead = 0;
+            self.slices = UNKNOWN;
         }
         Ok(())
     }
 
     /// Hands the piece out; the next one begins behind it.
     #[tactic(auto, unfolding(m2v_model::specs::Pieces::zeros_first))]
-    pub fn hand_out(&mut self, alloc: Global) -> Result<Piece, Memory>
+    pub fn hand_out(&mut self, alloc: Global) -> Result<CutPiece, Memory>
         requires fits { Fits self.old }
         ensures piece { IfOk result (λ p. IsPiece p self.old.place self.old.sure) }
         ensures next { OnOk result (self.new ≡ record {
@@ -406,16 +456,19 @@ impl Hand {
         let next = Vec::with_capacity(alloc, self.bytes.len())?;
         let (place, zeros) = (self.place, self.zeros);
         let length = self.bytes.len() as u64 + zeros;
+        let slices = self.slices.min(length);
+        self.slices = 0;
         self.phase = Phase::Headers;
         self.place = place + length;
         self.zeros = 0;
         let mut bytes = mem::replace(&mut self.bytes, next);
         pad(&mut bytes, zeros)?;
-        Ok(Piece {
+        let piece = Piece {
             bytes,
             place,
             length,
-        })
+        };
+        Ok(CutPiece::of(piece, slices))
     }
 
     /// Another text begins behind the last piece: again what stands before a sequence header is passed over.

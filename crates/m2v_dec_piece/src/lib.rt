@@ -3,6 +3,7 @@
 
 mod answer;
 mod chunk;
+mod cut_piece;
 mod cutter;
 mod hand;
 mod laws;
@@ -10,6 +11,7 @@ mod runs;
 mod taking;
 
 pub use answer::{DecodeError, Fault, Piece};
+pub use cut_piece::CutPiece;
 pub use cutter::Cutter;
 pub use laws::{law_next_text, law_text_after};
 

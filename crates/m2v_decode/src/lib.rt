@@ -24,7 +24,7 @@ pub use at_hand::AtHand;
 pub use decoder::Decoder;
 pub use fault_words::fault_word;
 pub use frames::put_due;
-pub use m2v_dec_piece::{Cutter, DecodeError, Fault, Piece};
+pub use m2v_dec_piece::{CutPiece, Cutter, DecodeError, Fault, Piece};
 pub use m2v_dec_rows as dec_rows;
 pub use m2v_dec_rows::dec_picture::DueFrame;
 pub use m2v_dec_rows::{Opened, SliceUnit, dec_picture, dec_unit, read_row};

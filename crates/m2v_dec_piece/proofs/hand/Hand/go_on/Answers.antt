@@ -8,4 +8,4 @@ invariant_of-self c =
     let h = c.self.inside in
     let known = c.self.invariant in
     let none = ap length (ap (λ (x : Held). x.sure) c.self.view_is ∙ c.requires.none) in
-    let empty : length h.bytes.items + h.zeros ≡ 0 = omega (arith, none, length-sure h.bytes.items h.zeros) in (known.0, known.1, known.2, λ before. empty, λ picture. absurd cc)
+    let empty : length h.bytes.items + h.zeros ≡ 0 = omega (arith, none, length-sure h.bytes.items h.zeros) in (known.0, known.1, known.2, λ before. empty, λ picture. absurd cc, known.5)

@@ -16,6 +16,7 @@ invariant_of-self c =
       λ e.
           let full = unit_full c.args.self.now c.code.new.self c.phase_of-self-inside.result c.args.value c.in-Ok.ensures.ok by e in
           omega (arith, full, ap (λ (x : Held). length x.sure) c.self.view_is, length-sure h.bytes.items h.zeros),
+      known.5,
     )
 
 pub returns-in-Ok-clause-ok : goal.returns-in-Ok-clause-ok

@@ -1,7 +1,7 @@
 use Rattle.std.proofs.Common.{ap, sym, refl, ◌∙◌, ◌++◌, false, arith}
 use Rattle.m2v_dec_piece.specs.Cutting.{Cutting, prefix, taken_by}
 use Rattle.m2v_dec_piece.proofs.Stands.{at_piece_fits, keeps_read}
-use Rattle.m2v_dec_piece.proofs.cutter.Cutter.next_piece.Goals as goal
+use Rattle.m2v_dec_piece.proofs.cutter.Cutter.next_cut.Goals as goal
 
 pub look_on-requires : goal.look_on-requires
 look_on-requires g c = record { fits = at_piece_fits c.self.inside.hand (c.self.invariant (ap (λ x. x.failed) c.self.view_is ∙ c.requires)) }
