@@ -1,13 +1,12 @@
 -- From where on the bytes of a piece are slices alone, as others are appended.
-use Rattle.std.proofs.Common.{◌≡◌, ℕ, zero, suc, ◌+◌, ◌-◌, ◌<◌, ◌≤◌, Bool, true, false, List, [], ◌∷◌, ◌++◌, length, drop, get_or, min, replicate, refl, sym, ap, subst, ◌∙◌, append_assoc, arith, inl, inr}
-use Rattle.std.specs.Prelude.{nat_eq, nat_le, ◌&&◌, if◌then◌else◌}
+use Rattle.std.proofs.Common.{◌≡◌, ℕ, zero, suc, ◌+◌, ◌-◌, ◌<◌, ◌≤◌, true, false, List, [], ◌∷◌, ◌++◌, length, get_or, min, replicate, refl, sym, ap, subst, ◌∙◌, append_assoc, arith, inl, inr}
+use Rattle.std.specs.Prelude.{nat_eq, if◌then◌else◌}
 use Rattle.std.proofs.lemmas.Bool.{cases_Bool, cases_lt, cases_eq, both_ways, and_parts, eqb-true, leb-true}
 use Rattle.std.proofs.lemmas.Bool.Decides.{nat_tests}
 use Rattle.std.proofs.lemmas.List.{length-append, get_or_append_left, get_or-append-add, get_or_past}
 use Rattle.m2v_model.specs.m2v_bits.Bits.{IsStartCode}
 use Rattle.m2v_model.specs.declared.phase.Phase.{Phase}
 use Rattle.m2v_model.specs.declared.phase.Phase.TheVariants.{Before, Headers, Picture}
-use Rattle.m2v_model.specs.Units.{begins_code}
 use Rattle.m2v_model.proofs.CutLaws.{code_none, code_at}
 use Rattle.m2v_dec_piece.specs.declared.answer.Piece.{Piece}
 use Rattle.m2v_dec_piece.specs.Cutting.{Held, Fits, IsPiece, IsRun, behind, code_of, prefix, sure_after}
@@ -53,8 +52,8 @@ longer_sliced from bytes ahead later le s = record { values = s.values; last = �
 zero_sliced : (from : ℕ) (bytes : List ℕ) (ahead : ℕ) → IsSliced from bytes ahead → IsSliced from (bytes ++ 0 ∷ []) 2
 zero_sliced from bytes ahead s =
     let ends : Ends from bytes (0 ∷ []) = λ k le ge code.
-        let at : get_or (bytes ++ 0 ∷ []) (k + 2) 0 ≡ 0 = there bytes (0 ∷ []) 0 (k + 2) (omega (arith, ge, code.0, length-append bytes (0 ∷ []))) in
-        absurd (omega (arith, at, code.3)) in
+    let at : get_or (bytes ++ 0 ∷ []) (k + 2) 0 ≡ 0 = there bytes (0 ∷ []) 0 (k + 2) (omega (arith, ge, code.0, length-append bytes (0 ∷ []))) in
+    absurd (omega (arith, at, code.3)) in
     more_sliced from ahead 2 bytes (0 ∷ []) s ends (λ few lt. absurd (omega (arith, few)))
 
 -- a byte that is neither 0 nor 1
@@ -62,8 +61,8 @@ other_sliced : (from : ℕ) (bytes : List ℕ) (ahead b : ℕ) → 1 < b → IsS
 other_sliced from bytes ahead b some s =
     let len = length-append bytes (b ∷ []) in
     let ends : Ends from bytes (b ∷ []) = λ k le ge code.
-        let at : get_or (bytes ++ b ∷ []) (k + 2) 0 ≡ b = there bytes (b ∷ []) 0 (k + 2) (omega (arith, ge, code.0, len)) in
-        absurd (omega (arith, at, code.3, some)) in
+    let at : get_or (bytes ++ b ∷ []) (k + 2) 0 ≡ b = there bytes (b ∷ []) 0 (k + 2) (omega (arith, ge, code.0, len)) in
+    absurd (omega (arith, at, code.3, some)) in
     let last : get_or (bytes ++ b ∷ []) (length (bytes ++ b ∷ []) - 1) 0 ≡ b = there bytes (b ∷ []) 0 _ (omega (arith, len)) in
     more_sliced from ahead 0 bytes (b ∷ []) s ends (λ few lt. omega (arith, last, some))
 
@@ -73,20 +72,20 @@ run_sliced from bytes ahead run few is some s =
     let n = length bytes in
     let len = length-append bytes run in
     let before : (i : ℕ) → i + 1 ≡ n → from ≤ i → 0 < get_or (bytes ++ run) i 0 = λ i end le.
-        let at : n - 1 ≡ i = omega (arith, end) in
-        omega (arith, s.last few (omega (arith, end, le)), ap (λ (j : ℕ). get_or bytes j 0) at, get_or_append_left bytes run 0 i (omega (arith, end))) in
+    let at : n - 1 ≡ i = omega (arith, end) in
+    omega (arith, s.last few (omega (arith, end, le)), ap (λ (j : ℕ). get_or bytes j 0) at, get_or_append_left bytes run 0 i (omega (arith, end))) in
     let ends : Ends from bytes run = λ k le ge code.
-        elim (cases_lt (k + 1) n) [
-          | inl two ↦ absurd (omega (arith, before (k + 1) (omega (arith, two, ge)) (omega (arith, le)), code.2))
-          | inr one ↦
-              elim (cases_lt k n) [
-                | inl last ↦ absurd (omega (arith, before k (omega (arith, last, one)) le, code.1))
-                | inr none ↦
-                    let first = there bytes run (k - n) k (omega (arith, none)) in
-                    let second = there bytes run (k - n + 1) (k + 1) (omega (arith, none)) in
-                    absurd (omega (arith, is (k - n) (omega (arith, none, code.0, len)), first, second, code.1, code.2))
-              ]
-        ] in
+    elim (cases_lt (k + 1) n) [
+      | inl two ↦ absurd (omega (arith, before (k + 1) (omega (arith, two, ge)) (omega (arith, le)), code.2))
+      | inr one ↦
+          elim (cases_lt k n) [
+            | inl last ↦ absurd (omega (arith, before k (omega (arith, last, one)) le, code.1))
+            | inr none ↦
+                let first = there bytes run (k - n) k (omega (arith, none)) in
+                let second = there bytes run (k - n + 1) (k + 1) (omega (arith, none)) in
+                absurd (omega (arith, is (k - n) (omega (arith, none, code.0, len)), first, second, code.1, code.2))
+          ]
+    ] in
     let end = length run - 1 in
     let last : get_or (bytes ++ run) (length (bytes ++ run) - 1) 0 ≡ get_or run end 0 = there bytes run end _ (omega (arith, len, some)) in
     more_sliced from ahead 0 bytes run s ends (λ few lt. omega (arith, last, is end (omega (arith, some)), get_or_past run (end + 1) 0 (omega (arith, some))))
@@ -122,14 +121,14 @@ code_sliced from bytes ahead value is s =
     let more : List ℕ = 1 ∷ value ∷ [] in
     let len = length-append front more in
     let ends : Ends from front more = λ k le ge code.
-        elim (cases_eq (k + 2) (length front)) [
-          | inl at ↦
-              let its : get_or (front ++ more) (k + 3) 0 ≡ value = there front more 1 (k + 3) (omega (arith, at)) in
-              (omega (arith, at, len), ap is_slice its ∙ is)
-          | inr off ↦
-              let it : get_or (front ++ more) (k + 1) 0 ≡ 1 = there front more 0 (k + 1) (omega (arith, ge, code.0, len, off)) in
-              absurd (omega (arith, it, code.2))
-        ] in
+    elim (cases_eq (k + 2) (length front)) [
+      | inl at ↦
+          let its : get_or (front ++ more) (k + 3) 0 ≡ value = there front more 1 (k + 3) (omega (arith, at)) in
+          (omega (arith, at, len), ap is_slice its ∙ is)
+      | inr off ↦
+          let it : get_or (front ++ more) (k + 1) 0 ≡ 1 = there front more 0 (k + 1) (omega (arith, ge, code.0, len, off)) in
+          absurd (omega (arith, it, code.2))
+    ] in
     let last : get_or (front ++ more) (length (front ++ more) - 1) 0 ≡ value = there front more 1 _ (omega (arith, len)) in
     subst (λ (x : List ℕ). IsSliced from x 0) (append_assoc bytes (0 ∷ 0 ∷ []) more)
     (more_sliced from 2 0 front more (two_sliced from bytes ahead s) ends (λ few lt. omega (arith, last, slice_some value is)))

@@ -8,7 +8,7 @@ use Rattle.m2v_model.specs.Pieces.{zeros_first, zeros_last, trimmed, limit, Limi
 use Rattle.m2v_dec_piece.specs.declared.answer.Piece.{Piece}
 use Rattle.m2v_dec_piece.specs.Cutting.{IsPiece}
 use Rattle.m2v_dec_piece.specs.Sound.{IsSoundPiece}
-use Rattle.m2v_dec_piece.proofs.TrimLaws.{reverse_zeros}
+use Rattle.m2v_dec_piece.proofs.TrimLaws.{reverse_zeros, trimmed_is, length-sure}
 use Rattle.m2v_dec_piece.proofs.LimitLaws.{limit_more, limit_stays}
 
 -- ---- the zero bytes that stand last
@@ -79,6 +79,11 @@ whole_is p place whole is =
     ∙ append_assoc (front_of whole) (replicate m 0) (replicate (n - m) 0)
     ∙ ap (λ (t : List ℕ). front_of whole ++ t) (replicate-append-replicate m (n - m) 0 ∙ ap (λ (k : ℕ). replicate k 0) all)
     ∙ front_whole whole
+
+-- the piece that is made of bytes of which the last isn't zero, and of zeros behind them
+pub piece_is : (p : Piece) (bytes : List ℕ) (n place : ℕ) → zeros_last bytes ≡ 0 → p.bytes.items ≡ bytes ++ replicate (min 64 n) 0 → p.place ≡ place → p.length ≡ length bytes + n
+    → limit place 0 (bytes ++ replicate n 0) ≡ None → IsPiece p place (bytes ++ replicate n 0)
+piece_is p bytes n place none are at long fits = record { bytes = are ∙ trimmed_is bytes n none; at = at; length = omega (arith, long, length-sure bytes n); fits = fits }
 
 -- ---- what is known of it
 

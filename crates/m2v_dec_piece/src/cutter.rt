@@ -219,7 +219,8 @@ impl Cutter {
         })
     }
 
-    /// The next piece of the text, with where its slices begin; None where none is left. After an error no call may follow.
+    /// The next piece of the text, with how many of its bytes stand before all that is slices; None where none is left.
+    /// After an error no call may follow.
     ///
     /// It answers TooLong where the piece, or the bytes before the first one, pass the first 2^36 bytes of the input, and
     /// PictureTooLarge where the piece passes 2,097,152 bytes up to its last byte that isn't zero: what comes first in
@@ -274,7 +275,7 @@ impl Cutter {
         }
     }
 
-    /// The next piece alone, as `next_cut` tells it.
+    /// The next piece alone, as `next_cut` hands it out. After an error no call may follow.
     pub fn next_piece<S: Source>(
         &mut self,
         alloc: Global,

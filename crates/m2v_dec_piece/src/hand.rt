@@ -21,7 +21,7 @@ const MOST_INPUT: u64 = 1 << 36;
 /// How many of the zero bytes that end a piece are handed on.
 const ZEROS: u64 = 64;
 
-/// More than the bytes of any piece: of none is it known that slices alone stand behind it.
+/// More than the bytes of any piece: nothing stands behind so many.
 const UNKNOWN: u64 = u64::MAX;
 
 /// The prefix of a start code.
@@ -102,7 +102,7 @@ fn phase_of(phase: Phase, value: u8) -> Phase
     }
 }
 
-/// How many bytes stand before all that is slices, behind a unit: as many as before it, or all.
+/// How many bytes stand before all that is slices, behind a start code: as many as before it, or all.
 fn slices_behind(value: u8, slices: u64, length: u64) -> u64
     ensures { result ≡ (if is_slice value then slices else length) }
 {
@@ -163,7 +163,7 @@ impl Hand {
         self.place
     }
 
-    /// One byte more is sure. Whoever knows what stands around it sets where slices begin.
+    /// One byte more is sure. Behind it slices aren't known: the caller, who knows the bytes around it, sets them anew.
     #[tactic(auto, using(crate::proofs::SliceLaws::unknown_sliced), unfolding(crate::specs::Cutting::limit_in, m2v_model::specs::Pieces::limit, m2v_model::specs::Pieces::zeros_first))]
     fn put(&mut self, b: u8) -> Result<(), DecodeError>
         ensures ok { OnOk result (self.new ≡ behind self.old (b ∷ [])) }
@@ -432,6 +432,7 @@ impl Hand {
         if ahead > 0 {
             self.put_all(&PREFIX[..ahead])?;
             self.ahead = 0;
+            // a prefix without a value may stand last
             self.slices = UNKNOWN;
         }
         Ok(())

@@ -1,4 +1,4 @@
-use Rattle.std.proofs.Common.{◌≡◌, ◌+◌, length, sym, subst, ap, ◌∙◌, arith}
+use Rattle.std.proofs.Common.{◌≡◌, ◌+◌, length, sym, subst, ap, arith}
 use Rattle.m2v_dec_piece.specs.Cutting.{Held}
 use Rattle.m2v_dec_piece.proofs.TrimLaws.{length-sure}
 use Rattle.m2v_dec_piece.proofs.SliceLaws.{Knows, knows_code}

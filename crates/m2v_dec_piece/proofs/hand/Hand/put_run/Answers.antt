@@ -1,4 +1,4 @@
-use Rattle.std.proofs.Common.{◌++◌, ◌<◌, List, ℕ, length, replicate, arith, ap, sym, subst, ◌∙◌}
+use Rattle.std.proofs.Common.{◌++◌, List, ℕ, length, replicate, arith, ap, sym, subst, ◌∙◌}
 use Rattle.std.proofs.lemmas.List.{length-append, append-nil}
 use Rattle.m2v_model.specs.Pieces.{zeros_last}
 use Rattle.m2v_dec_piece.proofs.TrimLaws.{zeros_last_run, length-sure}

@@ -1,5 +1,4 @@
 use Rattle.std.proofs.Common.{sym, subst, ◌∙◌}
-use Rattle.m2v_dec_piece.specs.Cutting.{Held}
 use Rattle.m2v_dec_piece.proofs.Steps.{took_zero, stops_zero}
 use Rattle.m2v_dec_piece.proofs.SliceLaws.{Knows, knows_zero}
 use Rattle.m2v_dec_piece.proofs.hand.Hand.third_zero.Goals as goal
