@@ -20,7 +20,7 @@ use Rattle.m2v_mend.specs.Feeding.{bare, bare_pieces}
 
 -- ---- units before an end code
 
-before_none : (vs : Units) → NoEnds vs → to_end vs ≡ vs
+pub before_none : (vs : Units) → NoEnds vs → to_end vs ≡ vs
 unfolding to_end
 before_none [] n = refl
 before_none (v ∷ vs) n = rw (n.0) (ap (λ (l : Units). v ∷ l) (before_none vs n.1))

@@ -81,7 +81,7 @@ unfolding counted_from before_matrices
 place_from [] c off = omega arith
 place_from (u ∷ us) c off = place_step u us c (is_matrices u) refl off (place_from us)
 
-counted_is : (us : Units) → IsCounted us (counted_from counted_none us)
+pub counted_is : (us : Units) → IsCounted us (counted_from counted_none us)
 unfolding counted_none
 counted_is us = record {
   sequence = sequence_from us counted_none;

@@ -4,6 +4,7 @@ pub mod InfoLaws
 pub mod FrontLaws
 pub mod HeadLaws
 pub mod Bare
+pub mod SliceUnits
 pub mod Stretched
 pub mod PartLaws
 pub mod BareLaws

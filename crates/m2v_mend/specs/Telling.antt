@@ -1,8 +1,9 @@
 -- What a piece tells without being decoded.
-use Rattle.std.specs.Prelude.{◌≡◌, ℕ, ◌+◌, Bool, false, ◌&&◌, ◌||◌, nat_eq, List, [], ◌∷◌, length, Option, Some, None, if◌then◌else◌}
-use Rattle.m2v_model.specs.Units.{Units, joined, body}
+use Rattle.std.specs.Prelude.{◌≡◌, ℕ, ◌+◌, ◌≤◌, Bool, true, false, ◌&&◌, ◌||◌, nat_eq, List, [], ◌∷◌, length, Option, Some, None, if◌then◌else◌}
+use Rattle.m2v_model.specs.Units.{Units, joined, unit_bits, body}
 use Rattle.m2v_model.specs.Looking.{number_from}
 use Rattle.m2v_model.specs.Streams.{value_of}
+use Rattle.m2v_decode.specs.m2v_dec_piece.Slices.{is_slice}
 use Rattle.m2v_law_group.specs.Groups.{is_sequence, is_group, has_sequence, coded_pictures}
 use Rattle.m2v_law_seam.specs.Spans.{has_group, picture_count, number_or, first_field, is_matrices, has_matrices}
 use Rattle.m2v_law_seam.specs.Faults.{before_picture, before_matrices}
@@ -63,3 +64,14 @@ counted_with u c = record {
   matrices = c.matrices || is_matrices u;
   matrices_place = place_with (c.matrices || is_matrices u) (length u) c.matrices_place;
 }
+
+-- ---- where slices alone are left
+
+-- a unit is a slice, where no more than so many bits are left of units with it
+abbrev pub SlicesFrom : ℕ → Units → Type 0
+SlicesFrom bits [] = Unit {0}
+SlicesFrom bits (u ∷ us) = (unit_bits (u ∷ us) ≤ bits → is_slice (value_of u) ≡ true) × SlicesFrom bits us
+
+-- what is counted with so many bytes of slices more
+abbrev pub with_slices : ℕ → Counted → Counted
+with_slices bytes c = record c { matrices_place = place_with c.matrices bytes c.matrices_place }

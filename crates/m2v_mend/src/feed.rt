@@ -2,6 +2,7 @@
 ghost use Rattle.std.specs.Prelude.{◌≡◌, ◌+◌, ◌-◌, ◌^◌, ◌≤◌, ◌<◌, length, take, drop, vec_len, false, IfOk, IfErr, IfSome, OnOk, IsErrOf};
 ghost use Rattle.m2v_port.specs.Port.{Rose};
 ghost use Rattle.m2v_decode.specs.m2v_dec_piece.Sound.{IsSoundPiece};
+ghost use Rattle.m2v_decode.specs.m2v_dec_piece.Slices.{OnlySlices};
 ghost use Rattle.m2v_decode.specs.m2v_dec_piece.Cutting.{IsReading};
 ghost use Rattle.m2v_decode.specs.m2v_dec_piece.Stepping.{Stopped};
 ghost use Rattle.m2v_decode.specs.Decoding.{whole_of};
@@ -11,7 +12,7 @@ use crate::Memory;
 use crate::fresh::Fresh;
 use crate::info::{Counted, count};
 use crate::walk::units;
-use m2v_decode::{Cutter, DecodeError, Piece};
+use m2v_decode::{CutPiece, Cutter, DecodeError, Piece};
 use m2v_port::Source;
 use std::alloc::Global;
 use std::marker::Model;
@@ -52,13 +53,15 @@ struct Extent {
     counted: Counted,
 }
 
-/// Measures a piece.
-fn measured(piece: &Piece) -> Extent
-    requires { IsSoundPiece piece.now }
+/// Measures a piece that is slices alone from a byte on.
+fn measured(piece: &Piece, slices: u64) -> Extent
+    requires sound { IsSoundPiece piece.now }
+    requires slices { OnlySlices slices (whole_of piece.now) }
     ensures { IsExtent (whole_of piece.now) result }
 {
     let all = units(piece).left();
-    let (counted, behind) = count(&mut units(piece));
+    let sliced = 8 * piece.length.saturating_sub(slices);
+    let (counted, behind) = count(&mut units(piece), sliced);
     Extent {
         units: all / 8,
         own: all.saturating_sub(behind) / 8,
@@ -87,18 +90,18 @@ fn bared(alloc: Global, piece: Piece, extent: &Extent) -> Result<Piece, Memory>
 }
 
 /// The same, with what is counted of it.
-fn fresh_of(alloc: Global, piece: Piece) -> Result<Fresh, Memory>
+fn fresh_of(alloc: Global, piece: CutPiece) -> Result<Fresh, Memory>
     requires { IsSoundPiece piece }
     ensures bare { IfOk result (λ p. IsBare p piece.place (whole_of piece)) }
     ensures zeros { IfOk result (KeepsZeros piece) }
 {
-    let extent = measured(&piece);
-    let bare = bared(alloc, piece, &extent)?;
+    let extent = measured(piece.piece(), piece.slices());
+    let bare = bared(alloc, piece.into_piece(), &extent)?;
     Ok(Fresh::of(bare, extent.counted))
 }
 
 /// The same, where there is a piece.
-fn fresh_if(alloc: Global, piece: Option<Piece>) -> Result<Option<Fresh>, Memory>
+fn fresh_if(alloc: Global, piece: Option<CutPiece>) -> Result<Option<Fresh>, Memory>
     requires { IfSome piece IsSoundPiece }
     ensures bare { IfOk result (AreBare piece) }
     ensures zeros { IfOk result (KeepZeros piece) }
@@ -173,7 +176,7 @@ impl Feed {
         ensures faults { S.faults input.old ≤ S.faults input.new }
         ensures most { self.old.place ≤ 2 ^ 36 }
     {
-        let piece = self.cutter.next_piece(alloc, input)?;
+        let piece = self.cutter.next_cut(alloc, input)?;
         let bare = fresh_if(alloc, piece)?;
         Ok(bare)
     }

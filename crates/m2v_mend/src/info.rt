@@ -9,7 +9,7 @@ ghost use Rattle.m2v_law_seam.specs.Spans.{units_of, number_or, field_by, first_
 ghost use Rattle.m2v_law_seam.specs.Faults.{before_picture};
 ghost use Rattle.m2v_mend.specs.Feeding.{from_end};
 ghost use Rattle.m2v_mend.specs.Gathering as gathering;
-ghost use Rattle.m2v_mend.specs.Telling.{IsInfo, IsCounted, first_kind, unit_or_none, pictures_with, place_with, counted_with};
+ghost use Rattle.m2v_mend.specs.Telling.{IsInfo, IsCounted, SlicesFrom, first_kind, unit_or_none, pictures_with, place_with, counted_with, with_slices};
 
 use crate::walk::{END, EXTENSION, GROUP, PICTURE, SEQUENCE, is, matrices_seen, number_in, units};
 use m2v_dec_unit::{Unit, UnitReader};
@@ -170,9 +170,27 @@ fn counted_with(counted: &Counted, unit: &Unit) -> Counted
     }
 }
 
-/// What is counted of units before the first sequence end code, and how many bits they have from it on.
+/// What is counted with so many bytes of slices more.
+fn with_slices(counted: &Counted, bytes: u64) -> Counted
+    requires { counted.now.matrices_place + bytes < 2 ^ 41 }
+    ensures { result ≡ with_slices bytes counted.now }
+{
+    let Counted {
+        matrices,
+        matrices_place,
+        ..
+    } = *counted;
+    Counted {
+        matrices_place: place_behind(matrices, matrices_place, bytes),
+        ..*counted
+    }
+}
+
+/// What is counted of units before the first sequence end code, and how many bits they have from it on. Where no more
+/// than `slices` bits are left, those are slices, which aren't gone over.
 #[tactic(auto, unfolding(crate::specs::Feeding::from_end, m2v_model::specs::Pieces::is_end))]
-pub(crate) fn count(units: &mut UnitReader) -> (Counted, u64)
+pub(crate) fn count(units: &mut UnitReader, slices: u64) -> (Counted, u64)
+    requires { SlicesFrom slices units.old }
     ensures counted { IsCounted (to_end units.old) result.0 }
     ensures behind { result.1 ≡ unit_bits (from_end units.old) }
 {
@@ -187,6 +205,9 @@ pub(crate) fn count(units: &mut UnitReader) -> (Counted, u64)
     };
     loop {
         let left = units.left();
+        if left <= slices {
+            return (with_slices(&counted, left / 8), 0);
+        }
         match units.next() {
             None => return (counted, 0),
             Some(unit) => {

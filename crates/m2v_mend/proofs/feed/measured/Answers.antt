@@ -1,10 +1,16 @@
-use Rattle.std.proofs.Common.{ap, subst, ◌∙◌, ◌/◌, ℕ}
+use Rattle.std.proofs.Common.{refl, sym, ap, subst, ◌∙◌, ◌*◌, ◌/◌, ℕ}
 use Rattle.m2v_model.specs.Units.{Units, unit_bits}
 use Rattle.m2v_law_group.specs.Groups.{to_end}
 use Rattle.m2v_mend.specs.Feeding.{from_end}
-use Rattle.m2v_mend.specs.Telling.{IsCounted}
+use Rattle.m2v_mend.specs.Telling.{IsCounted, SlicesFrom}
 use Rattle.m2v_mend.proofs.PartLaws.{extent_is}
+use Rattle.m2v_mend.proofs.SliceUnits.{piece_slices}
 use Rattle.m2v_mend.proofs.feed.measured.Goals as goal
+
+pub count-behind-requires : goal.count-behind-requires
+count-behind-requires c =
+    subst (SlicesFrom (8 * c.saturating_sub-sliced.result)) (sym c.units-2.ensures.value)
+    (piece_slices c.args.piece.now c.requires.sound c.args.slices c.saturating_sub-sliced.result (8 * c.saturating_sub-sliced.result) c.requires.slices c.saturating_sub-sliced.ensures refl)
 
 pub returns : goal.returns
 returns c =
