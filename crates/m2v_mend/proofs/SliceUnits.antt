@@ -14,7 +14,7 @@ use Rattle.m2v_decode.specs.m2v_dec_piece.Sound.{IsSoundPiece}
 use Rattle.m2v_decode.specs.m2v_dec_piece.Slices.{is_slice, OnlySlices}
 use Rattle.m2v_decode.specs.Decoding.{whole_of}
 use Rattle.m2v_decode.proofs.EndLaws.{whole_length}
-use Rattle.m2v_law_group.specs.Groups.{is_sequence, is_group, is_picture, to_end}
+use Rattle.m2v_law_group.specs.Groups.{is_sequence, is_group, to_end}
 use Rattle.m2v_law_group.proofs.Lists.{and_parts}
 use Rattle.m2v_law_group.proofs.Texts.{code_bytes}
 use Rattle.m2v_law_seam.specs.Spans.{units_of, is_matrices}
