@@ -1,7 +1,7 @@
 -- The laws of code tables, once for all of them.
 use Rattle.std.proofs.Common.{◌≡◌, ℕ, ◌+◌, ◌-◌, ◌/◌, ◌^◌, ◌<◌, ◌≤◌, Bool, true, false, eqb, leb, ltb, List, [], ◌∷◌, ◌++◌, length, take, drop, Option, Some, None, ◌⊎◌, inl, inr, refl, sym, ap, subst, ◌∙◌, arith}
 use Rattle.std.specs.Prelude.{◌&&◌, not}
-use Rattle.std.proofs.lemmas.Bool.{cases_Bool, eq-eqb, leb-true, leb-false, ltb-true, and_parts, cond-true, cond-false, both_ways, false_from_ne_true, not-true}
+use Rattle.std.proofs.lemmas.Bool.{cases_Bool, eq-eqb, le-leb, leb-true, leb-false, ltb-true, and_parts, and_from, cond-true, cond-false, both_ways, false_from_ne_true, not-true}
 use Rattle.std.proofs.lemmas.List.{length-append, length-take, take_at, drop_at, take-append-drop}
 use Rattle.std.proofs.lemmas.Nat.{shr_high, shr-shr}
 use Rattle.std.proofs.Math.Nat.{mod-eq_of_lt}
@@ -88,6 +88,13 @@ within_in w [] r f i = absurd i
 within_in {V} w (s ∷ t) r f i =
     let h = and_parts (leb s.len w) (is_within w t) f in
     elim i [ inl e ↦ subst (λ (x : Row V). x.len ≤ w) e (leb-true _ _ h.0) | inr j ↦ within_in w t r h.1 j ]
+
+pub within_more : {V : Type 0} (v w : ℕ) (t : List (Row V)) → v ≤ w → is_within v t ≡ true → is_within w t ≡ true
+unfolding is_within
+within_more v w [] le f = refl
+within_more v w (s ∷ t) le f =
+    let h = and_parts (leb s.len v) (is_within v t) f in
+    and_from (leb s.len w) (is_within w t) (le-leb s.len w (omega (arith, leb-true s.len v h.0))) (within_more v w t le h.1)
 
 pub apart_in : {V : Type 0} (s : Row V) (t : List (Row V)) (r : Row V) → apart_all s t ≡ true → In t r → apart s r ≡ true
 unfolding apart_all
@@ -255,20 +262,6 @@ code_of_cases same (s ∷ t) v =
 -- a value that no row has is without a code
 pub code_of_none : {V : Type 0} (same : V → V → Bool) (t : List (Row V)) (v : V) → ((r : Row V) → In t r → same r.value v ≡ true → ⊥) → code_of same t v ≡ []
 code_of_none same t v h = elim (code_of_cases same t v) [ inl x ↦ absurd (h x.0 x.1 x.2) | inr e ↦ e ]
-
--- a value that a row has, has a code of some bits
-pub value_some : {V : Type 0} (same : V → V → Bool) (t : List (Row V)) (r : Row V) (v : V) → is_free t ≡ true → In t r → same r.value v ≡ true → 0 < length (code_of same t v)
-unfolding code_of
-value_some same [] r v free i is = absurd i
-value_some {V} same (s ∷ t) r v free i is =
-    let h = free_parts s t free in
-    elim (cases_Bool (same s.value v)) [
-      | inl on ↦ rw (cond-true (same s.value v) (code s) (code_of same t v) on) (omega (arith, length-bits_of s.len s.number, (code_parts s h.0).0))
-      | inr off ↦ rw (cond-false (same s.value v) (code s) (code_of same t v) off) (elim i [
-        | inl e ↦ absurd (both_ways (same s.value v) off (subst (λ (x : Row V). same x.value v ≡ true) (sym e) is))
-        | inr j ↦ value_some same t r v h.2 j is
-      ])
-    ]
 
 pub length_within : {V : Type 0} (same : V → V → Bool) (w : ℕ) (t : List (Row V)) (v : V) → is_within w t ≡ true → length (code_of same t v) ≤ w
 length_within same w t v f = elim (code_of_cases same t v) [

@@ -9,7 +9,7 @@ use Rattle.m2v_vlc.specs.declared.values.CodeFault.TheVariants.{Truncated, NoCod
 use Rattle.m2v_vlc.specs.Codes.{Row, row, In, code_at, is_free}
 use Rattle.m2v_vlc.specs.Coefficients.{coefficient_zero, coefficient_one, first_zero}
 use Rattle.m2v_vlc.proofs.CodeLaws.{begins_number, front_number, row_here}
-use Rattle.m2v_vlc.proofs.Coefficients.{coefficient_zero_free, coefficient_one_free}
+use Rattle.m2v_vlc.proofs.Coefficients.{zero_pointed, one_pointed}
 use Rattle.m2v_vlc.proofs.Firsts.{first_zero_free}
 
 abbrev escape : Row Coefficient
@@ -35,10 +35,10 @@ unfolding first_zero
 in_first = inl refl
 
 pub zero_escape : (bs : List Bool) → number (ahead 6 bs) ≡ 1 → 6 ≤ length bs → (code_at Truncated NoCode coefficient_zero).read bs ≡ good (Escape, drop 6 bs)
-zero_escape bs e le = read coefficient_zero coefficient_zero_free in_zero bs e le
+zero_escape bs e le = read coefficient_zero zero_pointed.checked.free in_zero bs e le
 
 pub one_escape : (bs : List Bool) → number (ahead 6 bs) ≡ 1 → 6 ≤ length bs → (code_at Truncated NoCode coefficient_one).read bs ≡ good (Escape, drop 6 bs)
-one_escape bs e le = read coefficient_one coefficient_one_free in_one bs e le
+one_escape bs e le = read coefficient_one one_pointed.checked.free in_one bs e le
 
 pub first_escape : (bs : List Bool) → number (ahead 6 bs) ≡ 1 → 6 ≤ length bs → (code_at Truncated NoCode first_zero).read bs ≡ good (Escape, drop 6 bs)
 first_escape bs e le = read first_zero first_zero_free in_first bs e le

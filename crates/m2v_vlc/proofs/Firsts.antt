@@ -1,5 +1,5 @@
 -- Table B.14 at the first coefficient of a block that is not intra.
-use Rattle.std.proofs.Common.{◌≡◌, ℕ, ◌<◌, ◌≤◌, Bool, true, false, List, [], ◌∷◌, ◌++◌, length, drop, None, refl, sym, ◌∙◌, arith}
+use Rattle.std.proofs.Common.{◌≡◌, ℕ, ◌+◌, ◌<◌, ◌≤◌, Bool, true, false, cond, List, [], ◌∷◌, length, drop, None, refl, sym, ◌∙◌, arith}
 use Rattle.std.specs.Prelude.{ℤ, pos, negsuc}
 use Rattle.std.specs.List.{list_all}
 use Rattle.std.proofs.lemmas.Bool.{cond-false, false_from_ne_true}
@@ -9,11 +9,11 @@ use Rattle.m2v_bits.proofs.SyntaxLaws.{Strict, good, bad}
 use Rattle.m2v_vlc.specs.declared.values.Coefficient.{Coefficient}
 use Rattle.m2v_vlc.specs.declared.values.Coefficient.TheVariants.{End, Escape, Pair}
 use Rattle.m2v_vlc.specs.declared.values.CodeFault.TheVariants.{Truncated, NoCode}
-use Rattle.m2v_vlc.specs.Codes.{Row, row, code, In, code_of, code_at, begins, row_at, is_cut, apart_all, is_free, is_within, is_other, is_single}
+use Rattle.m2v_vlc.specs.Codes.{Row, row, code, code_of, code_at, begins, row_at, is_cut, apart_all, is_free, is_within, is_other, is_single}
 use Rattle.m2v_vlc.specs.Values.{same_signed, minus}
 use Rattle.m2v_vlc.specs.Coefficients.{signed, same_coefficient, pairs_zero, coefficient_zero, coefficient_zero_code, first_zero, first_zero_code, IsFirst}
-use Rattle.m2v_vlc.proofs.CodeLaws.{code_strict, one_row, length_within, code_spells, spelled_once}
-use Rattle.m2v_vlc.proofs.Places.{coefficient_sound, coefficient_reflexive, is_small, small_range}
+use Rattle.m2v_vlc.proofs.CodeLaws.{code_strict, length_within, code_spells}
+use Rattle.m2v_vlc.proofs.Places.{coefficient_sound, is_small, small_range}
 
 pub first_zero_free : is_free first_zero ≡ true
 unfolding is_free apart_all first_zero pairs_zero signed
@@ -92,29 +92,23 @@ first_cut (false ∷ []) le lt = absurd (omega arith)
 first_cut (true ∷ []) le lt = rw first_is (short_cut rest rest_none)
 first_cut (a ∷ b ∷ bs) le lt = absurd (omega arith)
 
-plus_read : (t : List (Row Coefficient)) (bs : List Bool) → number (ahead 2 bs) ≡ 2 → 2 ≤ length bs → (code_at Truncated NoCode (first_rows t)).read bs ≡ good (Pair 0 (pos 1), drop 2 bs)
+-- after a 1 the next bit is the sign
+unit_read : (t : List (Row Coefficient)) (sign : Bool) (bs : List Bool) → number (ahead 2 bs) ≡ 2 + cond sign 1 0 → 2 ≤ length bs → (code_at Truncated NoCode (first_rows t)).read bs ≡ good (Pair 0 (cond sign (minus 1) (pos 1)), drop 2 bs)
 unfolding code_at row_at begins bits_of number ahead
-plus_read t [] e le = absurd (omega arith)
-plus_read t (a ∷ []) e le = absurd (omega arith)
-plus_read t (true ∷ false ∷ bs) e le = refl
-plus_read t (true ∷ true ∷ bs) e le = absurd (omega arith)
-plus_read t (false ∷ true ∷ bs) e le = absurd (omega arith)
-plus_read t (false ∷ false ∷ bs) e le = absurd (omega arith)
+unit_read t sign [] e le = absurd (omega arith)
+unit_read t sign (a ∷ []) e le = absurd (omega arith)
+unit_read t false (true ∷ false ∷ bs) e le = refl
+unit_read t true (true ∷ true ∷ bs) e le = refl
+unit_read t false (true ∷ true ∷ bs) e le = absurd (omega arith)
+unit_read t true (true ∷ false ∷ bs) e le = absurd (omega arith)
+unit_read t sign (false ∷ true ∷ bs) e le = absurd (omega arith)
+unit_read t sign (false ∷ false ∷ bs) e le = absurd (omega arith)
 
 pub first_plus : (bs : List Bool) → number (ahead 2 bs) ≡ 2 → 2 ≤ length bs → (code_at Truncated NoCode first_zero).read bs ≡ good (Pair 0 (pos 1), drop 2 bs)
-first_plus bs e le = rw first_is (plus_read rest bs e le)
-
-minus_read : (t : List (Row Coefficient)) (bs : List Bool) → number (ahead 2 bs) ≡ 3 → 2 ≤ length bs → (code_at Truncated NoCode (first_rows t)).read bs ≡ good (Pair 0 (minus 1), drop 2 bs)
-unfolding code_at row_at begins bits_of number ahead
-minus_read t [] e le = absurd (omega arith)
-minus_read t (a ∷ []) e le = absurd (omega arith)
-minus_read t (true ∷ true ∷ bs) e le = refl
-minus_read t (true ∷ false ∷ bs) e le = absurd (omega arith)
-minus_read t (false ∷ true ∷ bs) e le = absurd (omega arith)
-minus_read t (false ∷ false ∷ bs) e le = absurd (omega arith)
+first_plus bs e le = rw first_is (unit_read rest false bs e le)
 
 pub first_minus : (bs : List Bool) → number (ahead 2 bs) ≡ 3 → 2 ≤ length bs → (code_at Truncated NoCode first_zero).read bs ≡ good (Pair 0 (minus 1), drop 2 bs)
-first_minus bs e le = rw first_is (minus_read rest bs e le)
+first_minus bs e le = rw first_is (unit_read rest true bs e le)
 
 -- ---- the codes
 
@@ -177,10 +171,3 @@ first_zero_length v = length_within same_coefficient 17 first_zero v first_zero_
 
 pub first_zero_spells : {K : Type 0} (cut none : K) (v : Coefficient) → 0 < length (first_zero_code v) → Spells (code_at cut none first_zero) v (first_zero_code v)
 first_zero_spells cut none v some = code_spells cut none same_coefficient first_zero v coefficient_sound some
-
--- what stands for a coefficient is its code
-pub first_zero_once : {K : Type 0} (cut none : K) (v : Coefficient) (t rest : List Bool) → (code_at cut none first_zero).Stands v t rest → t ≡ first_zero_code v ++ rest
-first_zero_once cut none v t rest st = spelled_once cut none same_coefficient first_zero v t rest coefficient_reflexive first_zero_single st
-
-pub first_zero_one_row : (r s : Row Coefficient) → In first_zero r → In first_zero s → r.value ≡ s.value → r ≡ s
-first_zero_one_row r s i j e = one_row same_coefficient first_zero r s coefficient_reflexive first_zero_single i j e

@@ -1,6 +1,7 @@
 pub mod CodeLaws
 pub mod LookupLaws
 pub mod ValueLaws
+pub mod Checks
 pub mod Increments
 pub mod MbTypes
 pub mod Patterns

@@ -1,5 +1,5 @@
 -- What the look-ups of a program say of a table.
-use Rattle.std.proofs.Common.{◌≡◌, ℕ, zero, suc, ◌+◌, ◌-◌, ◌/◌, ◌^◌, ◌<◌, ◌≤◌, Bool, true, false, cond, eqb, leb, ltb, List, [], ◌∷◌, ◌++◌, length, get_or, take, drop, Option, Some, None, inl, inr, refl, sym, ap, subst, ◌∙◌, zero-add, arith}
+use Rattle.std.proofs.Common.{◌≡◌, ℕ, zero, suc, ◌+◌, ◌-◌, ◌/◌, ◌^◌, ◌<◌, ◌≤◌, Bool, true, false, cond, eqb, leb, ltb, List, [], ◌∷◌, ◌++◌, map, length, get_or, take, drop, Option, Some, None, inl, inr, refl, sym, ap, subst, ◌∙◌, zero-add, arith}
 use Rattle.std.specs.Prelude.{◌&&◌, slice_get}
 use Rattle.std.specs.List.{list_any}
 use Rattle.std.proofs.lemmas.Bool.{cases_lt, cases_Bool, eqb-true, eqb-false, leb-true, le-leb, lt-leb, lt-ltb, and_parts, and_from, and_left, and_right, false_from_ne_true}
@@ -61,9 +61,11 @@ row_fits rows i e t lt is =
     let below : e.1 < 2 ^ e.2 = (code_parts r (free_in (rows_of rows) r t.free own)).1 in
     (le, below, omega (arith, below, pow-le-pow_right {n = 2} (omega arith) le))
 
--- where the code at i has a bit, i is a row's place
-pub index_some : {V : Type 0} (rows : List (V × ℕ × ℕ)) (i : ℕ) → 0 < length (code_in (rows_of rows) i) → i < length rows
-index_some rows i some = elim (cases_lt i (length rows)) [ inl lt ↦ lt | inr le ↦ absurd (omega (arith, ap length (code_in_past (rows_of rows) i (rows_past rows i le)))) ]
+-- the code of each row has a bit
+pub code_some : {V : Type 0} (t : List (Row V)) (i : ℕ) → is_free t ≡ true → i < length (map code t) → 0 < length (code_in t i)
+code_some [] i free lt = absurd (omega arith)
+code_some (s ∷ t) zero free lt = let h = free_parts s t free in omega (arith, length-bits_of s.len s.number, (code_parts s h.0).0)
+code_some (s ∷ t) (suc i) free lt = code_some t i (free_parts s t free).2 (omega arith)
 
 -- ---- reading by a row that is pointed at
 

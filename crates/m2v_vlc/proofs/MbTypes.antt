@@ -1,22 +1,23 @@
 -- Tables B.2 to B.4 and their look-ups, checked by computing.
-use Rattle.std.proofs.Common.{sym, ◌≡◌, ℕ, ◌*◌, ◌/◌, ◌%◌, ◌<◌, ◌≤◌, Bool, true, false, cond, List, ◌++◌, length, get_or, refl, ap, ◌∙◌, arith, ltb}
+use Rattle.std.proofs.Common.{sym, ◌≡◌, ℕ, ◌*◌, ◌/◌, ◌%◌, ◌<◌, ◌≤◌, Bool, true, false, cond, List, length, get_or, refl, ap, ◌∙◌, arith, ltb}
 use Rattle.std.specs.Prelude.{nat_eq}
-use Rattle.m2v_bits.specs.Bits.{bits_of, number, ahead}
+use Rattle.m2v_bits.specs.Bits.{bits_of}
 use Rattle.m2v_bits.specs.Syntax.{Spells}
 use Rattle.m2v_bits.proofs.SyntaxLaws.{Strict}
-use Rattle.m2v_vlc.specs.Codes.{Row, In, code_of, code_at, apart_all, is_free, is_within, is_other, is_single}
+use Rattle.m2v_vlc.specs.Codes.{Row, code_of, code_at, apart_all, is_free, is_within, is_other, is_single}
 use Rattle.m2v_vlc.specs.Values.{same_type, kind, flags, has_type_i, has_type_p, has_type_b}
 use Rattle.m2v_vlc.specs.Tables.{type_i, type_i_code, type_p, type_p_code, type_b, type_b_code}
-use Rattle.m2v_vlc.specs.Lookups.{rows_of, IsTable, Points, code_in}
+use Rattle.m2v_vlc.specs.Lookups.{code_in}
 use Rattle.m2v_vlc.specs.declared.values.MbType.{MbType}
 use Rattle.m2v_vlc.specs.declared.kind_rows.TheConstants.{TYPE_I_ROWS, TYPE_I_AT, TYPE_I_ROW, TYPE_P_ROWS, TYPE_P_AT, TYPE_P_ROW, TYPE_B_ROWS, TYPE_B_AT, TYPE_B_ROW}
-use Rattle.m2v_vlc.proofs.CodeLaws.{code_strict, one_row, length_within, code_spells, spelled_once}
-use Rattle.m2v_vlc.proofs.LookupLaws.{holds, points_flat}
-use Rattle.m2v_vlc.proofs.ValueLaws.{type_sound, type_reflexive, below, agree}
+use Rattle.m2v_vlc.proofs.CodeLaws.{code_strict, length_within, code_spells}
+use Rattle.m2v_vlc.proofs.LookupLaws.{holds}
+use Rattle.m2v_vlc.proofs.ValueLaws.{type_sound, below, agree}
+use Rattle.m2v_vlc.proofs.Checks.{Checked}
 
 -- ---- the flags of a type
 
-from_flags : ℕ → MbType
+pub from_flags : ℕ → MbType
 from_flags n = record { quant = nat_eq (n / 16 % 2) 1; forward = nat_eq (n / 8 % 2) 1; backward = nat_eq (n / 4 % 2) 1; pattern = nat_eq (n / 2 % 2) 1; intra = nat_eq (n % 2) 1 }
 
 weight : (b : Bool) (n : ℕ) → (cond b n 0 ≡ n * cond b 1 0) × (cond b 1 0 ≤ 1)
@@ -45,212 +46,95 @@ flags_back v =
     let ei = flag v.intra (flags v % 2) (omega (arith, q, f, b, p, i)) in
     λ k. record { quant = eq k; forward = ef k; backward = eb k; pattern = ep k; intra = ei k }
 
--- ---- table B.2
+-- ---- a table of types
 
-pub type_i_rows : rows_of TYPE_I_ROWS ≡ type_i
-unfolding type_i
-type_i_rows = refl
+-- each type's code stands in the row that its flags point to; and which types have one
+pub record AreTypes (t : List (Row MbType)) (at : List ℕ) (has : MbType → Bool) : Type 0 where
+  pub codes : below (λ n. code_in t (get_or at n 0)) 32 ≡ below (λ n. code_of same_type t (from_flags n)) 32
+  pub some : below (λ n. ltb 0 (length (code_of same_type t (from_flags n)))) 32 ≡ below (λ n. has (from_flags n)) 32
+
+pub type_index : {t : List (Row MbType)} {at : List ℕ} {has : MbType → Bool} → AreTypes t at has → (v : MbType) (n i : ℕ) → n ≡ flags v → i ≡ get_or at n 0 → code_in t i ≡ code_of same_type t v
+type_index {t} {at} {has} are v n i is place =
+    let lt : n < 32 = omega (arith, is, flags_below v) in
+    ap (code_in t) place ∙ agree (λ n. code_in t (get_or at n 0)) (λ n. code_of same_type t (from_flags n)) 32 n are.codes lt ∙ ap (λ (x : ℕ). code_of same_type t (from_flags x)) is ∙ ap (code_of same_type t) (flags_back v)
+
+type_some : {t : List (Row MbType)} {at : List ℕ} {has : MbType → Bool} → AreTypes t at has → (v : MbType) → ltb 0 (length (code_of same_type t v)) ≡ has v
+type_some {t} {at} {has} are v =
+    let back = flags_back v in
+    ap (λ (x : MbType). ltb 0 (length (code_of same_type t x))) (sym back)
+    ∙ agree (λ n. ltb 0 (length (code_of same_type t (from_flags n)))) (λ n. has (from_flags n)) 32 (flags v) are.some (flags_below v)
+    ∙ ap has back
+
+-- ---- tables B.2 to B.4
+
+pub type_i_checked : Checked same_type (kind 0 0 0 0 0) 2 TYPE_I_ROWS TYPE_I_AT type_i
+unfolding is_free apart_all is_within is_single is_other holds type_i
+type_i_checked = record { rows = refl; free = refl; within = refl; width = (omega arith, omega arith); single = refl; looked = refl }
+
+pub type_p_checked : Checked same_type (kind 0 0 0 0 0) 6 TYPE_P_ROWS TYPE_P_AT type_p
+unfolding is_free apart_all is_within is_single is_other holds type_p
+type_p_checked = record { rows = refl; free = refl; within = refl; width = (omega arith, omega arith); single = refl; looked = refl }
+
+pub type_b_checked : Checked same_type (kind 0 0 0 0 0) 6 TYPE_B_ROWS TYPE_B_AT type_b
+unfolding is_free apart_all is_within is_single is_other holds type_b
+type_b_checked = record { rows = refl; free = refl; within = refl; width = (omega arith, omega arith); single = refl; looked = refl }
+
+pub type_i_are : AreTypes type_i TYPE_I_ROW has_type_i
+unfolding below type_i code_of from_flags bits_of
+type_i_are = record { codes = refl; some = refl }
+
+pub type_p_are : AreTypes type_p TYPE_P_ROW has_type_p
+unfolding below type_p code_of from_flags bits_of
+type_p_are = record { codes = refl; some = refl }
+
+pub type_b_are : AreTypes type_b TYPE_B_ROW has_type_b
+unfolding below type_b code_of from_flags bits_of
+type_b_are = record { codes = refl; some = refl }
+
+-- ---- the laws
 
 pub type_i_free : is_free type_i ≡ true
-unfolding is_free apart_all type_i
-type_i_free = refl
+type_i_free = type_i_checked.free
 
-type_i_within : is_within 2 type_i ≡ true
-unfolding is_within type_i
-type_i_within = refl
+pub type_p_free : is_free type_p ≡ true
+type_p_free = type_p_checked.free
 
-type_i_short : is_within 17 type_i ≡ true
-unfolding is_within type_i
-type_i_short = refl
-
-pub type_i_single : is_single same_type type_i ≡ true
-unfolding is_single is_other type_i
-type_i_single = refl
-
-pub type_i_table : IsTable type_i
-type_i_table = record { free = type_i_free; within = type_i_short }
-
-type_i_lookup : holds (kind 0 0 0 0 0) 2 type_i 0 TYPE_I_AT ≡ true
-unfolding holds apart_all type_i
-type_i_lookup = refl
-
-pub type_i_points : (bs : List Bool) (p i : ℕ) → p ≡ number (ahead 2 bs) → p < 4 → i ≡ get_or TYPE_I_AT p 0 → Points type_i i bs
-type_i_points bs p i at lt found = points_flat (kind 0 0 0 0 0) 2 type_i TYPE_I_AT bs p i type_i_table (omega arith) (omega arith) type_i_lookup at lt found
-
-type_i_codes : below (λ n. code_in type_i (get_or TYPE_I_ROW n 0)) 32 ≡ below (λ n. type_i_code (from_flags n)) 32
-unfolding below type_i code_of from_flags
-type_i_codes = refl
-
--- the row that the flags point to
-pub type_i_index : (v : MbType) (n i : ℕ) → n ≡ flags v → i ≡ get_or TYPE_I_ROW n 0 → code_in type_i i ≡ type_i_code v
-type_i_index v n i is at =
-    let lt : n < 32 = omega (arith, is, flags_below v) in
-    ap (code_in type_i) at ∙ agree (λ n. code_in type_i (get_or TYPE_I_ROW n 0)) (λ n. type_i_code (from_flags n)) 32 n type_i_codes lt ∙ ap (λ (x : ℕ). type_i_code (from_flags x)) is ∙ ap type_i_code (flags_back v)
+pub type_b_free : is_free type_b ≡ true
+type_b_free = type_b_checked.free
 
 pub type_i_strict : {K : Type 0} (cut none : K) → Strict length (code_at cut none type_i)
-type_i_strict cut none = code_strict cut none type_i type_i_free
+type_i_strict cut none = code_strict cut none type_i type_i_checked.free
+
+pub type_p_strict : {K : Type 0} (cut none : K) → Strict length (code_at cut none type_p)
+type_p_strict cut none = code_strict cut none type_p type_p_checked.free
+
+pub type_b_strict : {K : Type 0} (cut none : K) → Strict length (code_at cut none type_b)
+type_b_strict cut none = code_strict cut none type_b type_b_checked.free
 
 pub type_i_length : (v : MbType) → length (type_i_code v) ≤ 2
-type_i_length v = length_within same_type 2 type_i v type_i_within
+type_i_length v = length_within same_type 2 type_i v type_i_checked.within
 
-type_i_bits : below (λ n. ltb 0 (length (type_i_code (from_flags n)))) 32 ≡ below (λ n. has_type_i (from_flags n)) 32
-unfolding below type_i code_of from_flags bits_of
-type_i_bits = refl
+pub type_p_length : (v : MbType) → length (type_p_code v) ≤ 6
+type_p_length v = length_within same_type 6 type_p v type_p_checked.within
+
+pub type_b_length : (v : MbType) → length (type_b_code v) ≤ 6
+type_b_length v = length_within same_type 6 type_b v type_b_checked.within
 
 -- which types have a code
 pub type_i_some : (v : MbType) → ltb 0 (length (type_i_code v)) ≡ has_type_i v
-type_i_some v =
-    let back = flags_back v in
-    ap (λ (x : MbType). ltb 0 (length (type_i_code x))) (sym back)
-    ∙ agree (λ n. ltb 0 (length (type_i_code (from_flags n)))) (λ n. has_type_i (from_flags n)) 32 (flags v) type_i_bits (flags_below v)
-    ∙ ap (λ (x : MbType). has_type_i x) back
+type_i_some v = type_some type_i_are v
+
+pub type_p_some : (v : MbType) → ltb 0 (length (type_p_code v)) ≡ has_type_p v
+type_p_some v = type_some type_p_are v
+
+pub type_b_some : (v : MbType) → ltb 0 (length (type_b_code v)) ≡ has_type_b v
+type_b_some v = type_some type_b_are v
 
 pub type_i_spells : {K : Type 0} (cut none : K) (v : MbType) → 0 < length (type_i_code v) → Spells (code_at cut none type_i) v (type_i_code v)
 type_i_spells cut none v some = code_spells cut none same_type type_i v type_sound some
 
--- what stands for a type is its code
-pub type_i_once : {K : Type 0} (cut none : K) (v : MbType) (t rest : List Bool) → (code_at cut none type_i).Stands v t rest → t ≡ type_i_code v ++ rest
-type_i_once cut none v t rest st = spelled_once cut none same_type type_i v t rest type_reflexive type_i_single st
-
-pub type_i_one_row : (r s : Row MbType) → In type_i r → In type_i s → r.value ≡ s.value → r ≡ s
-type_i_one_row r s i j e = one_row same_type type_i r s type_reflexive type_i_single i j e
-
--- ---- table B.3
-
-pub type_p_rows : rows_of TYPE_P_ROWS ≡ type_p
-unfolding type_p
-type_p_rows = refl
-
-pub type_p_free : is_free type_p ≡ true
-unfolding is_free apart_all type_p
-type_p_free = refl
-
-type_p_within : is_within 6 type_p ≡ true
-unfolding is_within type_p
-type_p_within = refl
-
-type_p_short : is_within 17 type_p ≡ true
-unfolding is_within type_p
-type_p_short = refl
-
-pub type_p_single : is_single same_type type_p ≡ true
-unfolding is_single is_other type_p
-type_p_single = refl
-
-pub type_p_table : IsTable type_p
-type_p_table = record { free = type_p_free; within = type_p_short }
-
-type_p_lookup : holds (kind 0 0 0 0 0) 6 type_p 0 TYPE_P_AT ≡ true
-unfolding holds apart_all type_p
-type_p_lookup = refl
-
-pub type_p_points : (bs : List Bool) (p i : ℕ) → p ≡ number (ahead 6 bs) → p < 64 → i ≡ get_or TYPE_P_AT p 0 → Points type_p i bs
-type_p_points bs p i at lt found = points_flat (kind 0 0 0 0 0) 6 type_p TYPE_P_AT bs p i type_p_table (omega arith) (omega arith) type_p_lookup at lt found
-
-type_p_codes : below (λ n. code_in type_p (get_or TYPE_P_ROW n 0)) 32 ≡ below (λ n. type_p_code (from_flags n)) 32
-unfolding below type_p code_of from_flags
-type_p_codes = refl
-
--- the row that the flags point to
-pub type_p_index : (v : MbType) (n i : ℕ) → n ≡ flags v → i ≡ get_or TYPE_P_ROW n 0 → code_in type_p i ≡ type_p_code v
-type_p_index v n i is at =
-    let lt : n < 32 = omega (arith, is, flags_below v) in
-    ap (code_in type_p) at ∙ agree (λ n. code_in type_p (get_or TYPE_P_ROW n 0)) (λ n. type_p_code (from_flags n)) 32 n type_p_codes lt ∙ ap (λ (x : ℕ). type_p_code (from_flags x)) is ∙ ap type_p_code (flags_back v)
-
-pub type_p_strict : {K : Type 0} (cut none : K) → Strict length (code_at cut none type_p)
-type_p_strict cut none = code_strict cut none type_p type_p_free
-
-pub type_p_length : (v : MbType) → length (type_p_code v) ≤ 6
-type_p_length v = length_within same_type 6 type_p v type_p_within
-
-type_p_bits : below (λ n. ltb 0 (length (type_p_code (from_flags n)))) 32 ≡ below (λ n. has_type_p (from_flags n)) 32
-unfolding below type_p code_of from_flags bits_of
-type_p_bits = refl
-
--- which types have a code
-pub type_p_some : (v : MbType) → ltb 0 (length (type_p_code v)) ≡ has_type_p v
-type_p_some v =
-    let back = flags_back v in
-    ap (λ (x : MbType). ltb 0 (length (type_p_code x))) (sym back)
-    ∙ agree (λ n. ltb 0 (length (type_p_code (from_flags n)))) (λ n. has_type_p (from_flags n)) 32 (flags v) type_p_bits (flags_below v)
-    ∙ ap (λ (x : MbType). has_type_p x) back
-
 pub type_p_spells : {K : Type 0} (cut none : K) (v : MbType) → 0 < length (type_p_code v) → Spells (code_at cut none type_p) v (type_p_code v)
 type_p_spells cut none v some = code_spells cut none same_type type_p v type_sound some
 
--- what stands for a type is its code
-pub type_p_once : {K : Type 0} (cut none : K) (v : MbType) (t rest : List Bool) → (code_at cut none type_p).Stands v t rest → t ≡ type_p_code v ++ rest
-type_p_once cut none v t rest st = spelled_once cut none same_type type_p v t rest type_reflexive type_p_single st
-
-pub type_p_one_row : (r s : Row MbType) → In type_p r → In type_p s → r.value ≡ s.value → r ≡ s
-type_p_one_row r s i j e = one_row same_type type_p r s type_reflexive type_p_single i j e
-
--- ---- table B.4
-
-pub type_b_rows : rows_of TYPE_B_ROWS ≡ type_b
-unfolding type_b
-type_b_rows = refl
-
-pub type_b_free : is_free type_b ≡ true
-unfolding is_free apart_all type_b
-type_b_free = refl
-
-type_b_within : is_within 6 type_b ≡ true
-unfolding is_within type_b
-type_b_within = refl
-
-type_b_short : is_within 17 type_b ≡ true
-unfolding is_within type_b
-type_b_short = refl
-
-pub type_b_single : is_single same_type type_b ≡ true
-unfolding is_single is_other type_b
-type_b_single = refl
-
-pub type_b_table : IsTable type_b
-type_b_table = record { free = type_b_free; within = type_b_short }
-
-type_b_lookup : holds (kind 0 0 0 0 0) 6 type_b 0 TYPE_B_AT ≡ true
-unfolding holds apart_all type_b
-type_b_lookup = refl
-
-pub type_b_points : (bs : List Bool) (p i : ℕ) → p ≡ number (ahead 6 bs) → p < 64 → i ≡ get_or TYPE_B_AT p 0 → Points type_b i bs
-type_b_points bs p i at lt found = points_flat (kind 0 0 0 0 0) 6 type_b TYPE_B_AT bs p i type_b_table (omega arith) (omega arith) type_b_lookup at lt found
-
-type_b_codes : below (λ n. code_in type_b (get_or TYPE_B_ROW n 0)) 32 ≡ below (λ n. type_b_code (from_flags n)) 32
-unfolding below type_b code_of from_flags
-type_b_codes = refl
-
--- the row that the flags point to
-pub type_b_index : (v : MbType) (n i : ℕ) → n ≡ flags v → i ≡ get_or TYPE_B_ROW n 0 → code_in type_b i ≡ type_b_code v
-type_b_index v n i is at =
-    let lt : n < 32 = omega (arith, is, flags_below v) in
-    ap (code_in type_b) at ∙ agree (λ n. code_in type_b (get_or TYPE_B_ROW n 0)) (λ n. type_b_code (from_flags n)) 32 n type_b_codes lt ∙ ap (λ (x : ℕ). type_b_code (from_flags x)) is ∙ ap type_b_code (flags_back v)
-
-pub type_b_strict : {K : Type 0} (cut none : K) → Strict length (code_at cut none type_b)
-type_b_strict cut none = code_strict cut none type_b type_b_free
-
-pub type_b_length : (v : MbType) → length (type_b_code v) ≤ 6
-type_b_length v = length_within same_type 6 type_b v type_b_within
-
-type_b_bits : below (λ n. ltb 0 (length (type_b_code (from_flags n)))) 32 ≡ below (λ n. has_type_b (from_flags n)) 32
-unfolding below type_b code_of from_flags bits_of
-type_b_bits = refl
-
--- which types have a code
-pub type_b_some : (v : MbType) → ltb 0 (length (type_b_code v)) ≡ has_type_b v
-type_b_some v =
-    let back = flags_back v in
-    ap (λ (x : MbType). ltb 0 (length (type_b_code x))) (sym back)
-    ∙ agree (λ n. ltb 0 (length (type_b_code (from_flags n)))) (λ n. has_type_b (from_flags n)) 32 (flags v) type_b_bits (flags_below v)
-    ∙ ap (λ (x : MbType). has_type_b x) back
-
 pub type_b_spells : {K : Type 0} (cut none : K) (v : MbType) → 0 < length (type_b_code v) → Spells (code_at cut none type_b) v (type_b_code v)
 type_b_spells cut none v some = code_spells cut none same_type type_b v type_sound some
-
--- what stands for a type is its code
-pub type_b_once : {K : Type 0} (cut none : K) (v : MbType) (t rest : List Bool) → (code_at cut none type_b).Stands v t rest → t ≡ type_b_code v ++ rest
-type_b_once cut none v t rest st = spelled_once cut none same_type type_b v t rest type_reflexive type_b_single st
-
-pub type_b_one_row : (r s : Row MbType) → In type_b r → In type_b s → r.value ≡ s.value → r ≡ s
-type_b_one_row r s i j e = one_row same_type type_b r s type_reflexive type_b_single i j e

@@ -139,32 +139,40 @@ negative : (m : ℕ) → int_lt (negsuc m) (pos 0) ≡ true
 negative m = grind (arith, ints)
 
 -- the row of each coefficient, in a table with its pairs at their places
-module _ (t : List (Row RunLevel)) (e s : Row Coefficient) (end : e.value ≡ End) (escape : s.value ≡ Escape) (single : is_single same_coefficient (e ∷ s ∷ signed t) ≡ true) (spots : below (spot t) 1280 ≡ below (λ n. true) 1280) (all : list_all (λ r. has_place r.value) (e ∷ s ∷ signed t) ≡ true) (past : code_in (e ∷ s ∷ signed t) 255 ≡ []) where
+-- what is computed of a table with its pairs at their places
+pub record ArePlaced (t : List (Row RunLevel)) (e s : Row Coefficient) : Type 0 where
+  pub end : e.value ≡ End
+  pub escape : s.value ≡ Escape
+  pub spots : below (spot t) 1280 ≡ below (λ n. true) 1280
+  pub places : list_all (λ r. has_place r.value) (e ∷ s ∷ signed t) ≡ true
+  pub past : code_in (e ∷ s ∷ signed t) 255 ≡ []
+
+module _ (t : List (Row RunLevel)) (e s : Row Coefficient) (are : ArePlaced t e s) (single : is_single same_coefficient (e ∷ s ∷ signed t) ≡ true) where
   abbrev whole : List (Row Coefficient)
   whole = e ∷ s ∷ signed t
 
   place_none : (run : ℕ) (level : ℤ) → has_pair run (unsigned_abs level) ≡ false → code_of same_coefficient whole (Pair run level) ≡ []
-  place_none run level absent = code_of_none same_coefficient whole (Pair run level) (λ r i same. both_ways (has_pair run (unsigned_abs level)) absent (ap has_place (sym (coefficient_sound r.value (Pair run level) same)) ∙ all_in has_place whole r all i))
+  place_none run level absent = code_of_none same_coefficient whole (Pair run level) (λ r i same. both_ways (has_pair run (unsigned_abs level)) absent (ap has_place (sym (coefficient_sound r.value (Pair run level) same)) ∙ all_in has_place whole r are.places i))
 
   place_pair : (run : ℕ) (level : ℤ) → has_pair run (unsigned_abs level) ≡ true → code_in whole (2 * (start run + unsigned_abs level) + cond (int_lt level (pos 0)) 1 0) ≡ code_of same_coefficient whole (Pair run level)
   place_pair run (pos zero) has = let h = has_parts run 0 has in absurd (omega (arith, h.1))
   place_pair run (pos (suc m)) has =
-      let f = pair_found t run m spots has in
+      let f = pair_found t run m are.spots has in
       let sum : 2 * (start run + suc m) + 0 ≡ suc (suc (2 * (start run + m))) = omega arith in
       let place : 2 * (start run + suc m) + cond (int_lt (pos (suc m)) (pos 0)) 1 0 ≡ suc (suc (2 * (start run + m))) = ap (λ (b : Bool). 2 * (start run + suc m) + cond b 1 0) (not_negative (suc m)) ∙ sum in
       ap (code_in whole) place ∙ value_index same_coefficient whole (suc (suc (2 * (start run + m)))) (plus_row f.0) (Pair run (pos (suc m))) coefficient_reflexive single (plus_get t (start run + m) f.0 f.1) (rw (f.2, f.3) refl)
   place_pair run (negsuc m) has =
-      let f = pair_found t run m spots has in
+      let f = pair_found t run m are.spots has in
       let sum : 2 * (start run + suc m) + 1 ≡ suc (suc (suc (2 * (start run + m)))) = omega arith in
       let place : 2 * (start run + suc m) + cond (int_lt (negsuc m) (pos 0)) 1 0 ≡ suc (suc (suc (2 * (start run + m)))) = ap (λ (b : Bool). 2 * (start run + suc m) + cond b 1 0) (negative m) ∙ sum in
       ap (code_in whole) place ∙ value_index same_coefficient whole (suc (suc (suc (2 * (start run + m))))) (minus_row f.0) (Pair run (negsuc m)) coefficient_reflexive single (minus_get t (start run + m) f.0 f.1) (rw (f.2, f.3) refl)
 
   pub place_of : (v : Coefficient) → code_in whole (coefficient_place v) ≡ code_of same_coefficient whole v
-  place_of End = value_index same_coefficient whole 0 e End coefficient_reflexive single refl end
-  place_of Escape = value_index same_coefficient whole 1 s Escape coefficient_reflexive single refl escape
+  place_of End = value_index same_coefficient whole 0 e End coefficient_reflexive single refl are.end
+  place_of Escape = value_index same_coefficient whole 1 s Escape coefficient_reflexive single refl are.escape
   place_of (Pair run level) = elim (cases_Bool (has_pair run (unsigned_abs level))) [
     | inl has ↦ ap (code_in whole) (cond-true (has_pair run (unsigned_abs level)) (2 * (start run + unsigned_abs level) + cond (int_lt level (pos 0)) 1 0) 255 has) ∙ place_pair run level has
-    | inr absent ↦ ap (code_in whole) (cond-false (has_pair run (unsigned_abs level)) (2 * (start run + unsigned_abs level) + cond (int_lt level (pos 0)) 1 0) 255 absent) ∙ past ∙ sym (place_none run level absent)
+    | inr absent ↦ ap (code_in whole) (cond-false (has_pair run (unsigned_abs level)) (2 * (start run + unsigned_abs level) + cond (int_lt level (pos 0)) 1 0) 255 absent) ∙ are.past ∙ sym (place_none run level absent)
   ]
 
 -- ---- what a program finds by the starts of the runs

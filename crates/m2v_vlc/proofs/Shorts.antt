@@ -2,7 +2,6 @@
 use Rattle.std.proofs.Common.{◌≡◌, ℕ, ◌+◌, ◌-◌, ◌/◌, ◌<◌, ◌≤◌, Bool, true, eqb, leb, List, length, get_or, drop, Option, Some, None, Ok, inl, inr, refl, sym, ap, ap₂, subst, ◌∙◌, arith}
 use Rattle.std.specs.Prelude.{◌&&◌, slice_get, pos}
 use Rattle.std.proofs.lemmas.Bool.{cases_lt, eqb-true, leb-true, and_parts}
-use Rattle.std.specs.List.{list_all}
 use Rattle.m2v_bits.specs.Bits.{number, ahead}
 use Rattle.m2v_bits.proofs.SyntaxLaws.{good}
 use Rattle.m2v_vlc.specs.declared.values.Coefficient.{Coefficient}
@@ -14,14 +13,14 @@ use Rattle.m2v_vlc.specs.declared.zero_short.TheConstants.{ZERO_SHORT}
 use Rattle.m2v_vlc.specs.declared.one_short.TheConstants.{ONE_SHORT}
 use Rattle.m2v_vlc.specs.Codes.{Row, code_at}
 use Rattle.m2v_vlc.specs.Values.{same_signed, minus}
-use Rattle.m2v_vlc.specs.Lookups.{IsTable, Points}
 use Rattle.m2v_vlc.specs.Shorts.{ShortPair, Stands, Ends, nothing}
 use Rattle.m2v_vlc.specs.Coefficients.{coefficient_zero, coefficient_one, first_zero, pairs_zero, pairs_one, signed}
 use Rattle.m2v_vlc.proofs.LookupLaws.{reads_row, get_in, peeked}
 use Rattle.m2v_vlc.proofs.Places.{is_small, small_range}
 use Rattle.m2v_vlc.proofs.ValueLaws.{signed_sound, below, agree, all_in}
-use Rattle.m2v_vlc.proofs.Coefficients.{coefficient_zero_table, coefficient_zero_known, zero_by_9, coefficient_one_table, coefficient_one_known, one_by_9}
+use Rattle.m2v_vlc.proofs.Coefficients.{Pointed, first_by}
 use Rattle.m2v_vlc.proofs.Firsts.{first_same, first_plus, first_minus}
+use Rattle.m2v_vlc.proofs.Checks.{table_of}
 
 -- ---- an entry is the pair, or the end, of the row that the rows' look-up points to
 
@@ -71,17 +70,10 @@ end_row w (Some r) e h is = let p = end_is w r.value r.len e h is in (r, refl, p
 
 -- ---- what is read
 
--- the rows' look-up by nine bits points to the row whose code stands there
-abbrev PointsBy : List (Row Coefficient) → List ℕ → Type 0
-PointsBy t by = (bs : List Bool) (q i : ℕ) → q ≡ number (ahead 17 bs) → q < 131072 → 2048 ≤ q → i ≡ get_or by (q / 256 - 8) 0 → Points t i bs
-
 -- the entries are those of the rows, behind the first eight, which stand for nothing
-record AreShorts (t : List (Row Coefficient)) (by : List ℕ) (entries : List ShortPair) : Type 0 where
-  table : IsTable t
-  known : list_all (λ r. is_small r.value) t ≡ true
-  points : PointsBy t by
-  few : below (λ n. (get_or entries n nothing).1) 8 ≡ below (λ n. 64) 8
-  all : below (λ n. is_short 9 (slice_get t (get_or by n 0)) (get_or entries (8 + n) nothing)) 504 ≡ below (λ n. true) 504
+pub record AreShorts (t : List (Row Coefficient)) (by : List ℕ) (entries : List ShortPair) : Type 0 where
+  pub few : below (λ n. (get_or entries n nothing).1) 8 ≡ below (λ n. 64) 8
+  pub all : below (λ n. is_short 9 (slice_get t (get_or by n 0)) (get_or entries (8 + n) nothing)) 504 ≡ below (λ n. true) 504
 
 -- an entry that stands for something is that of a row
 entry_is : (t : List (Row Coefficient)) (by : List ℕ) (entries : List ShortPair) (k : ℕ) (p : ShortPair) → AreShorts t by entries
@@ -96,72 +88,45 @@ entry_is t by entries k p are lt entry other =
           (large, subst (λ (x : ShortPair). is_short 9 (slice_get t (get_or by n 0)) x ≡ true) here (agree (λ n. is_short 9 (slice_get t (get_or by n 0)) (get_or entries (8 + n) nothing)) (λ n. true) 504 n are.all (omega arith)))
     ]
 
-reads : (t : List (Row Coefficient)) (by : List ℕ) (k : ℕ) (v : Coefficient) (len : ℕ) (bs : List Bool) → IsTable t → PointsBy t by → k < 512 → 8 ≤ k
-    → Found 9 (slice_get t (get_or by (k - 8) 0)) v len → k ≡ number (ahead 9 bs) → len ≤ length bs → (code_at Truncated NoCode t).read bs ≡ Ok (v, drop len bs)
-reads t by k v len bs table points lt large (r, get, value, same, short) nine enough =
-    let i = get_or by (k - 8) 0 in
-    let seventeen = number (ahead 17 bs) in
-    let high : k ≡ seventeen / 256 = nine ∙ peeked 9 bs (omega arith) in
-    let at = points bs seventeen i refl (omega (arith, high, lt)) (omega (arith, high, large)) (ap (λ (x : ℕ). get_or by (x - 8) 0) high) in
-    reads_row Truncated NoCode t i r bs table at get (omega (arith, same, enough)) ∙ ap₂ (λ w n. good (w, drop n bs)) value same
+module _ {rows : List (Coefficient × ℕ × ℕ)} {by by_13 by_17 : List ℕ} {t : List (Row Coefficient)} (is : Pointed rows by by_13 by_17 t) (k : ℕ) (lt : k < 512) where
+  reads : (v : Coefficient) (len : ℕ) (bs : List Bool) → 8 ≤ k → Found 9 (slice_get t (get_or by (k - 8) 0)) v len → k ≡ number (ahead 9 bs) → len ≤ length bs
+      → (code_at Truncated NoCode t).read bs ≡ Ok (v, drop len bs)
+  reads v len bs large (r, get, value, same, short) nine enough =
+      let i = get_or by (k - 8) 0 in
+      let seventeen = number (ahead 17 bs) in
+      let high : k ≡ seventeen / 256 = nine ∙ peeked 9 bs (omega arith) in
+      let at = first_by is bs seventeen i refl (omega (arith, high, lt)) (omega (arith, high, large)) (ap (λ (x : ℕ). get_or by (x - 8) 0) high) in
+      reads_row Truncated NoCode t i r bs (table_of is.checked) at get (omega (arith, same, enough)) ∙ ap₂ (λ w n. good (w, drop n bs)) value same
 
-stands : (t : List (Row Coefficient)) (by : List ℕ) (entries : List ShortPair) (k : ℕ) (p : ShortPair) → AreShorts t by entries → k < 512 → get_or entries k nothing ≡ p → p.1 < 64 → Stands 9 t k p
-stands t by entries k p are lt entry run =
-    let e = entry_is t by entries k p are lt entry (λ is. absurd (omega (arith, is, run))) in
-    let found = pair_row 9 (slice_get t (get_or by (k - 8) 0)) p e.1 run in
-    let r = found.0 in
-    record {
-      short = found.4;
-      range = small_range (Pair p.1 p.0) (subst (λ (x : Coefficient). is_small x ≡ true) found.2 (all_in is_small t r are.known (get_in t (get_or by (k - 8) 0) r found.1)));
-      reads = λ bs nine enough. reads t by k (Pair p.1 p.0) p.2 bs are.table are.points lt e.0 found nine enough;
-    }
+  pub stands : {entries : List ShortPair} (p : ShortPair) → AreShorts t by entries → get_or entries k nothing ≡ p → p.1 < 64 → Stands 9 t k p
+  stands {entries} p are entry run =
+      let e = entry_is t by entries k p are lt entry (λ is. absurd (omega (arith, is, run))) in
+      let found = pair_row 9 (slice_get t (get_or by (k - 8) 0)) p e.1 run in
+      let r = found.0 in
+      record {
+        short = found.4;
+        range = small_range (Pair p.1 p.0) (subst (λ (x : Coefficient). is_small x ≡ true) found.2 (all_in is_small t r is.known (get_in t (get_or by (k - 8) 0) r found.1)));
+        reads = λ bs nine enough. reads (Pair p.1 p.0) p.2 bs e.0 found nine enough;
+      }
 
-ends : (t : List (Row Coefficient)) (by : List ℕ) (entries : List ShortPair) (k : ℕ) (p : ShortPair) → AreShorts t by entries → k < 512 → get_or entries k nothing ≡ p → p.1 ≡ 128 → Ends 9 t k p
-ends t by entries k p are lt entry run =
-    let e = entry_is t by entries k p are lt entry (λ is. absurd (omega (arith, is, run))) in
-    let found = end_row 9 (slice_get t (get_or by (k - 8) 0)) p e.1 run in
-    record {
-      short = found.4;
-      reads = λ bs nine enough. reads t by k End p.2 bs are.table are.points lt e.0 found nine enough;
-    }
+  pub ends : {entries : List ShortPair} (p : ShortPair) → AreShorts t by entries → get_or entries k nothing ≡ p → p.1 ≡ 128 → Ends 9 t k p
+  ends {entries} p are entry run =
+      let e = entry_is t by entries k p are lt entry (λ is. absurd (omega (arith, is, run))) in
+      let found = end_row 9 (slice_get t (get_or by (k - 8) 0)) p e.1 run in
+      record {
+        short = found.4;
+        reads = λ bs nine enough. reads End p.2 bs e.0 found nine enough;
+      }
 
--- ---- table B.14
+-- ---- tables B.14 and B.15
 
-zero_first : below (λ n. (get_or ZERO_SHORT n nothing).1) 8 ≡ below (λ n. 64) 8
-unfolding below
-zero_first = refl
-
-zero_all : below (λ n. is_short 9 (slice_get coefficient_zero (get_or ZERO_BY_9 n 0)) (get_or ZERO_SHORT (8 + n) nothing)) 504 ≡ below (λ n. true) 504
+pub zero_shorts : AreShorts coefficient_zero ZERO_BY_9 ZERO_SHORT
 unfolding below coefficient_zero pairs_zero signed same_signed
-zero_all = refl
+zero_shorts = record { few = refl; all = refl }
 
-zero_are : AreShorts coefficient_zero ZERO_BY_9 ZERO_SHORT
-zero_are = record { table = coefficient_zero_table; known = coefficient_zero_known; points = zero_by_9; few = zero_first; all = zero_all }
-
-pub zero_stands : (k : ℕ) (p : ShortPair) → k < 512 → get_or ZERO_SHORT k nothing ≡ p → p.1 < 64 → Stands 9 coefficient_zero k p
-zero_stands k p lt entry run = stands coefficient_zero ZERO_BY_9 ZERO_SHORT k p zero_are lt entry run
-
-pub zero_ends : (k : ℕ) (p : ShortPair) → k < 512 → get_or ZERO_SHORT k nothing ≡ p → p.1 ≡ 128 → Ends 9 coefficient_zero k p
-zero_ends k p lt entry run = ends coefficient_zero ZERO_BY_9 ZERO_SHORT k p zero_are lt entry run
-
--- ---- table B.15
-
-one_first : below (λ n. (get_or ONE_SHORT n nothing).1) 8 ≡ below (λ n. 64) 8
-unfolding below
-one_first = refl
-
-one_all : below (λ n. is_short 9 (slice_get coefficient_one (get_or ONE_BY_9 n 0)) (get_or ONE_SHORT (8 + n) nothing)) 504 ≡ below (λ n. true) 504
+pub one_shorts : AreShorts coefficient_one ONE_BY_9 ONE_SHORT
 unfolding below coefficient_one pairs_one signed same_signed
-one_all = refl
-
-one_are : AreShorts coefficient_one ONE_BY_9 ONE_SHORT
-one_are = record { table = coefficient_one_table; known = coefficient_one_known; points = one_by_9; few = one_first; all = one_all }
-
-pub one_stands : (k : ℕ) (p : ShortPair) → k < 512 → get_or ONE_SHORT k nothing ≡ p → p.1 < 64 → Stands 9 coefficient_one k p
-one_stands k p lt entry run = stands coefficient_one ONE_BY_9 ONE_SHORT k p one_are lt entry run
-
-pub one_ends : (k : ℕ) (p : ShortPair) → k < 512 → get_or ONE_SHORT k nothing ≡ p → p.1 ≡ 128 → Ends 9 coefficient_one k p
-one_ends k p lt entry run = ends coefficient_one ONE_BY_9 ONE_SHORT k p one_are lt entry run
+one_shorts = record { few = refl; all = refl }
 
 -- ---- table B.14 at the first coefficient of a block that is not intra
 

@@ -86,10 +86,6 @@ unfolding code_at
 in_range {V} P test cut none t bs rest (Ok v) free all p gives = let st = (code_lawful cut none t free).found v bs rest gives in p v (subst (λ (x : V). test x ≡ true) st.2 (all_in test t st.0 all st.1))
 in_range P test cut none t bs rest (Err e) free all p gives = search rules
 
--- what is read by a program's rows is read by their table
-pub gives_same : {V K : Type 0} (cut none : K) (s t : List (Row V)) (result : Result V K) (rest bs : List Bool) → s ≡ t → Gives result rest ((code_at cut none s).read bs) → Gives result rest ((code_at cut none t).read bs)
-gives_same {V} cut none s t result rest bs e gives = subst (λ (x : List (Row V)). Gives result rest ((code_at cut none x).read bs)) e gives
-
 -- ---- two functions that agree below n, by computing
 
 unfoldable pub below : {A : Type 0} → (ℕ → A) → ℕ → List A

@@ -1,23 +1,17 @@
-use Rattle.std.proofs.Common.{List, sym, subst}
-use Rattle.m2v_vlc.specs.Codes.{Row}
-use Rattle.m2v_vlc.specs.Coefficients.{IsCoefficient, coefficient_one}
-use Rattle.m2v_vlc.specs.Lookups.{IsTable, Points, rows_of}
-use Rattle.m2v_vlc.specs.declared.values.Coefficient.{Coefficient}
-use Rattle.m2v_vlc.specs.declared.one_rows.TheConstants.{ONE_ROWS}
-use Rattle.m2v_vlc.specs.declared.values.CodeFault.TheVariants.{Truncated, NoCode}
-use Rattle.m2v_vlc.proofs.ValueLaws.{in_range, gives_same}
+use Rattle.m2v_vlc.specs.Coefficients.{IsCoefficient}
+use Rattle.m2v_vlc.proofs.Checks.{entries_table, entries_point, entries_give, entries_range}
 use Rattle.m2v_vlc.proofs.Places.{is_small, small_range}
-use Rattle.m2v_vlc.proofs.Coefficients.{coefficient_one_rows, coefficient_one_table, coefficient_one_free, coefficient_one_known}
+use Rattle.m2v_vlc.proofs.Coefficients.{one_pointed}
 use Rattle.m2v_vlc.proofs.coefficient.read_coefficient_one.Goals as goal
 
 pub read_row-requires-clause-table : goal.read_row-requires-clause-table
-read_row-requires-clause-table c = subst (λ (t : List (Row Coefficient)). IsTable t) (sym coefficient_one_rows) coefficient_one_table
+read_row-requires-clause-table c = entries_table one_pointed.checked
 
 pub read_row-requires-clause-points : goal.read_row-requires-clause-points
-read_row-requires-clause-points c = subst (λ (t : List (Row Coefficient)). Points t c.one_at-i.result c.args.input.now.rest) (sym coefficient_one_rows) c.one_at-i.ensures
+read_row-requires-clause-points c = entries_point one_pointed.checked c.args.input.now.rest c.one_at-i.result c.one_at-i.ensures
 
 pub returns-clause-exact : goal.returns-clause-exact
-returns-clause-exact c = gives_same Truncated NoCode (rows_of ONE_ROWS) coefficient_one c.read_row.result c.read_row.new.input.rest c.args.input.now.rest coefficient_one_rows c.read_row.ensures.exact
+returns-clause-exact c = entries_give one_pointed.checked c.read_row.result c.read_row.new.input.rest c.args.input.now.rest c.read_row.ensures.exact
 
 pub returns-clause-range : goal.returns-clause-range
-returns-clause-range c = in_range IsCoefficient is_small Truncated NoCode coefficient_one c.args.input.now.rest c.read_row.new.input.rest c.read_row.result coefficient_one_free coefficient_one_known small_range (gives_same Truncated NoCode (rows_of ONE_ROWS) coefficient_one c.read_row.result c.read_row.new.input.rest c.args.input.now.rest coefficient_one_rows c.read_row.ensures.exact)
+returns-clause-range c = entries_range one_pointed.checked IsCoefficient is_small c.read_row.result c.read_row.new.input.rest c.args.input.now.rest one_pointed.known small_range c.read_row.ensures.exact

@@ -1,12 +1,10 @@
-use Rattle.std.proofs.Common.{◌∙◌, List, ap, sym, subst}
-use Rattle.m2v_vlc.specs.Codes.{Row}
-use Rattle.m2v_vlc.specs.Lookups.{IsTable, code_in}
-use Rattle.m2v_vlc.specs.declared.values.Increment.{Increment}
-use Rattle.m2v_vlc.proofs.Increments.{increment_rows, increment_table}
+use Rattle.std.proofs.Common.{◌∙◌}
+use Rattle.m2v_vlc.proofs.Checks.{entries_table, entries_code}
+use Rattle.m2v_vlc.proofs.Increments.{increment_checked}
 use Rattle.m2v_vlc.proofs.increment.code_increment.Goals as goal
 
 pub row_code-requires : goal.row_code-requires
-row_code-requires c = subst (λ (t : List (Row Increment)). IsTable t) (sym increment_rows) increment_table
+row_code-requires c = entries_table increment_checked
 
 pub returns-clause-spelled : goal.returns-clause-spelled
-returns-clause-spelled c = c.row_code.ensures.spelled ∙ ap (λ (t : List (Row Increment)). code_in t c.increment_row.result) increment_rows ∙ c.increment_row.ensures
+returns-clause-spelled c = c.row_code.ensures.spelled ∙ entries_code increment_checked c.increment_row.result ∙ c.increment_row.ensures

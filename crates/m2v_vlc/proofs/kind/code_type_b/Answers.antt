@@ -1,12 +1,10 @@
-use Rattle.std.proofs.Common.{◌∙◌, List, ap, sym, subst}
-use Rattle.m2v_vlc.specs.Codes.{Row}
-use Rattle.m2v_vlc.specs.Lookups.{IsTable, code_in}
-use Rattle.m2v_vlc.specs.declared.values.MbType.{MbType}
-use Rattle.m2v_vlc.proofs.MbTypes.{type_b_rows, type_b_table, type_b_index}
+use Rattle.std.proofs.Common.{◌∙◌}
+use Rattle.m2v_vlc.proofs.Checks.{entries_table, entries_code}
+use Rattle.m2v_vlc.proofs.MbTypes.{type_b_checked, type_b_are, type_index}
 use Rattle.m2v_vlc.proofs.kind.code_type_b.Goals as goal
 
 pub row_code-requires : goal.row_code-requires
-row_code-requires c = subst (λ (t : List (Row MbType)). IsTable t) (sym type_b_rows) type_b_table
+row_code-requires c = entries_table type_b_checked
 
 pub returns-clause-spelled : goal.returns-clause-spelled
-returns-clause-spelled c = c.row_code.ensures.spelled ∙ ap (λ (t : List (Row MbType)). code_in t c.at.result) type_b_rows ∙ type_b_index c.args.value c.flags_of.result c.at.result c.flags_of.ensures.value c.at.ensures
+returns-clause-spelled c = c.row_code.ensures.spelled ∙ entries_code type_b_checked c.at.result ∙ type_index type_b_are c.args.value c.flags_of.result c.at.result c.flags_of.ensures.value c.at.ensures

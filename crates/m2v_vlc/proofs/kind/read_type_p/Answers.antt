@@ -1,19 +1,12 @@
-use Rattle.std.proofs.Common.{List, sym, subst}
-use Rattle.m2v_vlc.specs.Codes.{Row}
-use Rattle.m2v_vlc.specs.Tables.{type_p}
-use Rattle.m2v_vlc.specs.Lookups.{IsTable, Points, rows_of}
-use Rattle.m2v_vlc.specs.declared.values.MbType.{MbType}
-use Rattle.m2v_vlc.specs.declared.kind_rows.TheConstants.{TYPE_P_ROWS}
-use Rattle.m2v_vlc.specs.declared.values.CodeFault.TheVariants.{Truncated, NoCode}
-use Rattle.m2v_vlc.proofs.ValueLaws.{gives_same}
-use Rattle.m2v_vlc.proofs.MbTypes.{type_p_rows, type_p_table, type_p_points}
+use Rattle.m2v_vlc.proofs.Checks.{points_of, entries_table, entries_point, entries_give}
+use Rattle.m2v_vlc.proofs.MbTypes.{type_p_checked}
 use Rattle.m2v_vlc.proofs.kind.read_type_p.Goals as goal
 
 pub read_row-requires-clause-table : goal.read_row-requires-clause-table
-read_row-requires-clause-table c = subst (λ (t : List (Row MbType)). IsTable t) (sym type_p_rows) type_p_table
+read_row-requires-clause-table c = entries_table type_p_checked
 
 pub read_row-requires-clause-points : goal.read_row-requires-clause-points
-read_row-requires-clause-points c = subst (λ (t : List (Row MbType)). Points t c.at-i.result c.args.input.now.rest) (sym type_p_rows) (type_p_points c.args.input.now.rest c.peek.result c.at-i.result c.peek.ensures.value c.peek.ensures.below c.at-i.ensures)
+read_row-requires-clause-points c = entries_point type_p_checked c.args.input.now.rest c.at-i.result (points_of type_p_checked c.args.input.now.rest c.peek.result c.at-i.result c.peek.ensures.value c.peek.ensures.below c.at-i.ensures)
 
 pub returns-clause-exact : goal.returns-clause-exact
-returns-clause-exact c = gives_same Truncated NoCode (rows_of TYPE_P_ROWS) type_p c.read_row.result c.read_row.new.input.rest c.args.input.now.rest type_p_rows c.read_row.ensures.exact
+returns-clause-exact c = entries_give type_p_checked c.read_row.result c.read_row.new.input.rest c.args.input.now.rest c.read_row.ensures.exact
