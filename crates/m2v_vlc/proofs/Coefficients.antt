@@ -1,5 +1,5 @@
 -- Tables B.14 and B.15 and their look-ups, checked by computing.
-use Rattle.std.proofs.Common.{◌≡◌, ℕ, ◌-◌, ◌/◌, ◌<◌, ◌≤◌, Bool, true, List, length, get_or, refl, arith}
+use Rattle.std.proofs.Common.{◌≡◌, ℕ, ◌-◌, ◌/◌, ◌<◌, ◌≤◌, Bool, true, List, length, get_or, inl, inr, refl, arith}
 use Rattle.std.specs.List.{list_all}
 use Rattle.m2v_bits.specs.Bits.{bits_of, number, ahead}
 use Rattle.m2v_bits.specs.Syntax.{Spells}
@@ -8,15 +8,15 @@ use Rattle.m2v_vlc.specs.declared.values.Coefficient.{Coefficient}
 use Rattle.m2v_vlc.specs.declared.values.Coefficient.TheVariants.{End, Escape}
 use Rattle.m2v_vlc.specs.declared.zero_rows.TheConstants.{ZERO_ROWS, ZERO_BY_9, ZERO_BY_13, ZERO_BY_17}
 use Rattle.m2v_vlc.specs.declared.one_rows.TheConstants.{ONE_ROWS, ONE_BY_9, ONE_BY_13, ONE_BY_17}
-use Rattle.m2v_vlc.specs.Codes.{Row, row, code_of, code_at, apart_all, is_free, is_within, is_other, is_single}
+use Rattle.m2v_vlc.specs.Codes.{Row, row, In, code_of, code_at, apart_all, is_free, is_within, is_other, is_single}
 use Rattle.m2v_vlc.specs.Values.{same_signed}
 use Rattle.m2v_vlc.specs.Coefficients.{signed, same_coefficient, pairs_zero, pairs_one, coefficient_zero, coefficient_zero_code, coefficient_one, coefficient_one_code}
 use Rattle.m2v_vlc.specs.Places.{start, coefficient_place}
 use Rattle.m2v_vlc.specs.Lookups.{Points, code_in}
-use Rattle.m2v_vlc.proofs.CodeLaws.{code_strict, length_within, code_spells}
+use Rattle.m2v_vlc.proofs.CodeLaws.{code_strict, code_of_row, length_within, code_spells}
 use Rattle.m2v_vlc.proofs.LookupLaws.{holds, points}
 use Rattle.m2v_vlc.proofs.ValueLaws.{below}
-use Rattle.m2v_vlc.proofs.Places.{coefficient_sound, is_small, spot, ArePlaced, place_of}
+use Rattle.m2v_vlc.proofs.Places.{coefficient_sound, coefficient_reflexive, is_small, spot, ArePlaced, place_of}
 use Rattle.m2v_vlc.proofs.Checks.{Checked, table_of, points_of}
 
 -- what is computed of a table and of the look-ups of a program by nine, thirteen and seventeen bits
@@ -41,23 +41,11 @@ module _ {entries : List (Coefficient × ℕ × ℕ)} {by_9 by_13 by_17 : List �
 
 pub zero_pointed : Pointed ZERO_ROWS ZERO_BY_9 ZERO_BY_13 ZERO_BY_17 coefficient_zero
 unfolding is_free apart_all is_within is_single is_other holds same_coefficient same_signed coefficient_zero pairs_zero signed
-zero_pointed = record {
-  checked = record { rows = refl; free = refl; within = refl; width = (omega arith, omega arith); single = refl; looked = refl };
-  known = refl;
-  nine = refl;
-  thirteen = refl;
-  lengths = (refl, refl, refl);
-}
+zero_pointed = record { checked = record { rows = refl; free = refl; within = refl; width = (omega arith, omega arith); single = refl; looked = refl }; known = refl; nine = refl; thirteen = refl; lengths = (refl, refl, refl) }
 
 pub one_pointed : Pointed ONE_ROWS ONE_BY_9 ONE_BY_13 ONE_BY_17 coefficient_one
 unfolding is_free apart_all is_within is_single is_other holds same_coefficient same_signed coefficient_one pairs_one signed
-one_pointed = record {
-  checked = record { rows = refl; free = refl; within = refl; width = (omega arith, omega arith); single = refl; looked = refl };
-  known = refl;
-  nine = refl;
-  thirteen = refl;
-  lengths = (refl, refl, refl);
-}
+one_pointed = record { checked = record { rows = refl; free = refl; within = refl; width = (omega arith, omega arith); single = refl; looked = refl }; known = refl; nine = refl; thirteen = refl; lengths = (refl, refl, refl) }
 
 zero_placed : ArePlaced pairs_zero (row End 0x2 2) (row Escape 0x1 6)
 unfolding below spot start pairs_zero signed
@@ -104,10 +92,16 @@ pub coefficient_one_end : coefficient_one_code End ≡ bits_of 4 0x6
 unfolding coefficient_one code_of same_coefficient
 coefficient_one_end = refl
 
+pub in_zero : In coefficient_zero (row Escape 0x1 6)
+unfolding coefficient_zero
+in_zero = inr (inl refl)
+
+pub in_one : In coefficient_one (row Escape 0x1 6)
+unfolding coefficient_one
+in_one = inr (inl refl)
+
 pub coefficient_zero_escape : coefficient_zero_code Escape ≡ bits_of 6 0x1
-unfolding coefficient_zero code_of same_coefficient
-coefficient_zero_escape = refl
+coefficient_zero_escape = code_of_row same_coefficient coefficient_zero (row Escape 0x1 6) coefficient_reflexive zero_pointed.checked.single in_zero
 
 pub coefficient_one_escape : coefficient_one_code Escape ≡ bits_of 6 0x1
-unfolding coefficient_one code_of same_coefficient
-coefficient_one_escape = refl
+coefficient_one_escape = code_of_row same_coefficient coefficient_one (row Escape 0x1 6) coefficient_reflexive one_pointed.checked.single in_one

@@ -1,5 +1,5 @@
 -- The escape, of six bits in each table of coefficients.
-use Rattle.std.proofs.Common.{◌≡◌, ◌-◌, ◌/◌, ◌^◌, ◌≤◌, Bool, true, List, length, drop, inl, inr, refl, sym, ap, ◌∙◌, arith}
+use Rattle.std.proofs.Common.{◌≡◌, ◌-◌, ◌/◌, ◌^◌, ◌≤◌, Bool, true, List, length, drop, inl, refl, sym, ap, ◌∙◌, arith}
 use Rattle.m2v_bits.specs.Bits.{number, ahead}
 use Rattle.m2v_bits.proofs.Cursor.{ahead_take}
 use Rattle.m2v_bits.proofs.SyntaxLaws.{good}
@@ -9,7 +9,7 @@ use Rattle.m2v_vlc.specs.declared.values.CodeFault.TheVariants.{Truncated, NoCod
 use Rattle.m2v_vlc.specs.Codes.{Row, row, In, code_at, is_free}
 use Rattle.m2v_vlc.specs.Coefficients.{coefficient_zero, coefficient_one, first_zero}
 use Rattle.m2v_vlc.proofs.CodeLaws.{begins_number, front_number, row_here}
-use Rattle.m2v_vlc.proofs.Coefficients.{zero_pointed, one_pointed}
+use Rattle.m2v_vlc.proofs.Coefficients.{zero_pointed, one_pointed, in_zero, in_one}
 use Rattle.m2v_vlc.proofs.Firsts.{first_zero_free}
 
 abbrev escape : Row Coefficient
@@ -21,14 +21,6 @@ unfolding code_at
 read t free there bs e le =
     let front : number bs / 2 ^ (length bs - 6) ≡ 1 = front_number 6 bs le ∙ ap number (sym (ahead_take 6 bs le)) ∙ e in
     rw (row_here t escape bs free there (begins_number escape bs (omega arith) le front)) refl
-
-in_zero : In coefficient_zero escape
-unfolding coefficient_zero
-in_zero = inr (inl refl)
-
-in_one : In coefficient_one escape
-unfolding coefficient_one
-in_one = inr (inl refl)
 
 in_first : In first_zero escape
 unfolding first_zero

@@ -1,16 +1,19 @@
--- The look-ups of pairs with short codes, checked by computing against the rows' look-ups.
+-- The look-ups of pairs, checked by computing against the rows' look-ups, and what is read by those with short codes.
 use Rattle.std.proofs.Common.{◌≡◌, ℕ, ◌+◌, ◌-◌, ◌/◌, ◌<◌, ◌≤◌, Bool, true, eqb, leb, List, length, get_or, drop, Option, Some, None, Ok, inl, inr, refl, sym, ap, ap₂, subst, ◌∙◌, arith}
-use Rattle.std.specs.Prelude.{◌&&◌, slice_get, pos}
+use Rattle.std.specs.Prelude.{◌&&◌, cond, nat_lt, slice_get, pos}
 use Rattle.std.proofs.lemmas.Bool.{cases_lt, eqb-true, leb-true, and_parts}
 use Rattle.m2v_bits.specs.Bits.{number, ahead}
 use Rattle.m2v_bits.proofs.SyntaxLaws.{good}
 use Rattle.m2v_vlc.specs.declared.values.Coefficient.{Coefficient}
 use Rattle.m2v_vlc.specs.declared.values.Coefficient.TheVariants.{End, Escape, Pair}
 use Rattle.m2v_vlc.specs.declared.values.CodeFault.TheVariants.{Truncated, NoCode}
-use Rattle.m2v_vlc.specs.declared.zero_rows.TheConstants.{ZERO_BY_9}
-use Rattle.m2v_vlc.specs.declared.one_rows.TheConstants.{ONE_BY_9}
+use Rattle.m2v_vlc.specs.declared.zero_rows.TheConstants.{ZERO_BY_9, ZERO_BY_13, ZERO_BY_17}
+use Rattle.m2v_vlc.specs.declared.one_rows.TheConstants.{ONE_BY_9, ONE_BY_13, ONE_BY_17}
 use Rattle.m2v_vlc.specs.declared.zero_short.TheConstants.{ZERO_SHORT}
 use Rattle.m2v_vlc.specs.declared.one_short.TheConstants.{ONE_SHORT}
+use Rattle.m2v_vlc.specs.declared.zero_long.TheConstants.{ZERO_LONG}
+use Rattle.m2v_vlc.specs.declared.one_long.TheConstants.{ONE_LONG}
+use Rattle.m2v_vlc.specs.declared.longest.TheConstants.{LONGEST}
 use Rattle.m2v_vlc.specs.Codes.{Row, code_at}
 use Rattle.m2v_vlc.specs.Values.{same_signed, minus}
 use Rattle.m2v_vlc.specs.Shorts.{ShortPair, Stands, Ends, nothing}
@@ -70,23 +73,16 @@ end_row w (Some r) e h is = let p = end_is w r.value r.len e h is in (r, refl, p
 
 -- ---- what is read
 
--- the entries are those of the rows, behind the first eight, which stand for nothing
-pub record AreShorts (t : List (Row Coefficient)) (by : List ℕ) (entries : List ShortPair) : Type 0 where
-  pub few : below (λ n. (get_or entries n nothing).1) 8 ≡ below (λ n. 64) 8
-  pub all : below (λ n. is_short 9 (slice_get t (get_or by n 0)) (get_or entries (8 + n) nothing)) 504 ≡ below (λ n. true) 504
+-- the row that the rows' look-ups by thirteen and seventeen bits point to
+abbrev pub row_by : List ℕ → List ℕ → ℕ → ℕ
+row_by by_13 by_17 p = cond (nat_lt p 512) (get_or by_17 p 0) (get_or by_13 (p / 16 - 32) 0)
 
--- an entry that stands for something is that of a row
-entry_is : (t : List (Row Coefficient)) (by : List ℕ) (entries : List ShortPair) (k : ℕ) (p : ShortPair) → AreShorts t by entries
-    → k < 512 → get_or entries k nothing ≡ p → (p.1 ≡ 64 → ⊥) → (8 ≤ k) × (is_short 9 (slice_get t (get_or by (k - 8) 0)) p ≡ true)
-entry_is t by entries k p are lt entry other =
-    elim (cases_lt k 8) [
-      | inl small ↦ absurd (other (sym (ap (λ (e : ShortPair). e.1) entry) ∙ agree (λ n. (get_or entries n nothing).1) (λ n. 64) 8 k are.few small))
-      | inr large ↦
-          let n = k - 8 in
-          let same : 8 + n ≡ k = omega arith in
-          let here : get_or entries (8 + n) nothing ≡ p = rw same entry in
-          (large, subst (λ (x : ShortPair). is_short 9 (slice_get t (get_or by n 0)) x ≡ true) here (agree (λ n. is_short 9 (slice_get t (get_or by n 0)) (get_or entries (8 + n) nothing)) (λ n. true) 504 n are.all (omega arith)))
-    ]
+-- the entries by nine bits are those of the rows, behind the first eight, which stand for nothing; so are those by fourteen and by seventeen
+pub record AreEntries (by_9 by_13 by_17 : List ℕ) (t : List (Row Coefficient)) (shorts longs : List ShortPair) : Type 0 where
+  pub few : below (λ n. (get_or shorts n nothing).1) 8 ≡ below (λ n. 64) 8
+  pub short : below (λ n. is_short 9 (slice_get t (get_or by_9 n 0)) (get_or shorts (8 + n) nothing)) 504 ≡ below (λ n. true) 504
+  pub long : below (λ n. is_short 17 (slice_get t (row_by by_13 by_17 (256 + n))) (get_or longs ((256 + n) / 8 - 32) nothing)) 1792 ≡ below (λ n. true) 1792
+  pub longest : below (λ n. is_short 17 (slice_get t (row_by by_13 by_17 n)) (get_or LONGEST n nothing)) 256 ≡ below (λ n. true) 256
 
 module _ {rows : List (Coefficient × ℕ × ℕ)} {by by_13 by_17 : List ℕ} {t : List (Row Coefficient)} (is : Pointed rows by by_13 by_17 t) (k : ℕ) (lt : k < 512) where
   reads : (v : Coefficient) (len : ℕ) (bs : List Bool) → 8 ≤ k → Found 9 (slice_get t (get_or by (k - 8) 0)) v len → k ≡ number (ahead 9 bs) → len ≤ length bs
@@ -98,35 +94,48 @@ module _ {rows : List (Coefficient × ℕ × ℕ)} {by by_13 by_17 : List ℕ} {
       let at = first_by is bs seventeen i refl (omega (arith, high, lt)) (omega (arith, high, large)) (ap (λ (x : ℕ). get_or by (x - 8) 0) high) in
       reads_row Truncated NoCode t i r bs (table_of is.checked) at get (omega (arith, same, enough)) ∙ ap₂ (λ w n. good (w, drop n bs)) value same
 
-  pub stands : {entries : List ShortPair} (p : ShortPair) → AreShorts t by entries → get_or entries k nothing ≡ p → p.1 < 64 → Stands 9 t k p
-  stands {entries} p are entry run =
-      let e = entry_is t by entries k p are lt entry (λ is. absurd (omega (arith, is, run))) in
-      let found = pair_row 9 (slice_get t (get_or by (k - 8) 0)) p e.1 run in
-      let r = found.0 in
-      record {
-        short = found.4;
-        range = small_range (Pair p.1 p.0) (subst (λ (x : Coefficient). is_small x ≡ true) found.2 (all_in is_small t r is.known (get_in t (get_or by (k - 8) 0) r found.1)));
-        reads = λ bs nine enough. reads (Pair p.1 p.0) p.2 bs e.0 found nine enough;
-      }
+  module _ {shorts longs : List ShortPair} (are : AreEntries by by_13 by_17 t shorts longs) (p : ShortPair) (entry : p ≡ get_or shorts k nothing) where
+    -- an entry that stands for something is that of a row
+    entry_is : (p.1 ≡ 64 → ⊥) → (8 ≤ k) × (is_short 9 (slice_get t (get_or by (k - 8) 0)) p ≡ true)
+    entry_is other =
+        elim (cases_lt k 8) [
+          | inl small ↦ absurd (other (ap (λ (e : ShortPair). e.1) entry ∙ agree (λ n. (get_or shorts n nothing).1) (λ n. 64) 8 k are.few small))
+          | inr large ↦
+              let n = k - 8 in
+              let same : 8 + n ≡ k = omega arith in
+              let here : get_or shorts (8 + n) nothing ≡ p = rw same (sym entry) in
+              (large, subst (λ (x : ShortPair). is_short 9 (slice_get t (get_or by n 0)) x ≡ true) here (agree (λ n. is_short 9 (slice_get t (get_or by n 0)) (get_or shorts (8 + n) nothing)) (λ n. true) 504 n are.short (omega arith)))
+        ]
 
-  pub ends : {entries : List ShortPair} (p : ShortPair) → AreShorts t by entries → get_or entries k nothing ≡ p → p.1 ≡ 128 → Ends 9 t k p
-  ends {entries} p are entry run =
-      let e = entry_is t by entries k p are lt entry (λ is. absurd (omega (arith, is, run))) in
-      let found = end_row 9 (slice_get t (get_or by (k - 8) 0)) p e.1 run in
-      record {
-        short = found.4;
-        reads = λ bs nine enough. reads End p.2 bs e.0 found nine enough;
-      }
+    pub stands : p.1 < 64 → Stands 9 t k p
+    stands run =
+        let e = entry_is (λ z. absurd (omega (arith, z, run))) in
+        let found = pair_row 9 (slice_get t (get_or by (k - 8) 0)) p e.1 run in
+        let r = found.0 in
+        record {
+          short = found.4;
+          range = small_range (Pair p.1 p.0) (subst (λ (x : Coefficient). is_small x ≡ true) found.2 (all_in is_small t r is.known (get_in t (get_or by (k - 8) 0) r found.1)));
+          reads = λ bs nine enough. reads (Pair p.1 p.0) p.2 bs e.0 found nine enough;
+        }
+
+    pub ends : p.1 ≡ 128 → Ends 9 t k p
+    ends run =
+        let e = entry_is (λ z. absurd (omega (arith, z, run))) in
+        let found = end_row 9 (slice_get t (get_or by (k - 8) 0)) p e.1 run in
+        record {
+          short = found.4;
+          reads = λ bs nine enough. reads End p.2 bs e.0 found nine enough;
+        }
 
 -- ---- tables B.14 and B.15
 
-pub zero_shorts : AreShorts coefficient_zero ZERO_BY_9 ZERO_SHORT
+pub zero_entries : AreEntries ZERO_BY_9 ZERO_BY_13 ZERO_BY_17 coefficient_zero ZERO_SHORT ZERO_LONG
 unfolding below coefficient_zero pairs_zero signed same_signed
-zero_shorts = record { few = refl; all = refl }
+zero_entries = record { few = refl; short = refl; long = refl; longest = refl }
 
-pub one_shorts : AreShorts coefficient_one ONE_BY_9 ONE_SHORT
+pub one_entries : AreEntries ONE_BY_9 ONE_BY_13 ONE_BY_17 coefficient_one ONE_SHORT ONE_LONG
 unfolding below coefficient_one pairs_one signed same_signed
-one_shorts = record { few = refl; all = refl }
+one_entries = record { few = refl; short = refl; long = refl; longest = refl }
 
 -- ---- table B.14 at the first coefficient of a block that is not intra
 

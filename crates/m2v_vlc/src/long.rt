@@ -1,6 +1,7 @@
-ghost use Rattle.std.specs.Prelude.{◌≡◌, ◌<◌, ◌≤◌, if◌then◌else◌};
+ghost use Rattle.std.specs.Prelude.{◌≡◌, ◌-◌, ◌/◌, ◌<◌, ◌≤◌, if◌then◌else◌, slice_index_or};
 ghost use Rattle.m2v_vlc.specs.Coefficients.{coefficient_zero, coefficient_one, first_zero};
-ghost use Rattle.m2v_vlc.specs.Shorts.{Stands};
+ghost use Rattle.m2v_vlc.specs.Shorts.{Stands, nothing};
+ghost use Rattle.m2v_vlc.specs.declared.longest.TheConstants.{LONGEST};
 
 use crate::longest::LONGEST;
 use crate::one_long::ONE_LONG;
@@ -8,27 +9,16 @@ use crate::short::entry_at;
 use crate::values::ShortPair;
 use crate::zero_long::ZERO_LONG;
 
-/// What seventeen bits, six zero bits first, begin with by table B.14.
+/// What the look-ups hold for seventeen bits, six zero bits first: that of a table by fourteen bits, and that of both by seventeen.
 #[inline(always)]
-fn zero_long(seventeen: u32) -> &'static ShortPair
+fn long_at(longs: &'static [ShortPair; 224], seventeen: u32) -> &'static ShortPair
     requires { seventeen < 2048 }
-    ensures stands { result.now.1 < 64 → Stands 17 coefficient_zero seventeen result.now }
+    ensures far { 256 ≤ seventeen
+        → result.now ≡ slice_index_or longs.now (seventeen / 8 - 32) nothing }
+    ensures near { seventeen < 256 → result.now ≡ slice_index_or LONGEST seventeen nothing }
 {
     if seventeen >= 256 {
-        entry_at(&ZERO_LONG, (seventeen >> 3) - 32)
-    } else {
-        entry_at(&LONGEST, seventeen)
-    }
-}
-
-/// What seventeen bits, six zero bits first, begin with by table B.15.
-#[inline(always)]
-fn one_long(seventeen: u32) -> &'static ShortPair
-    requires { seventeen < 2048 }
-    ensures stands { result.now.1 < 64 → Stands 17 coefficient_one seventeen result.now }
-{
-    if seventeen >= 256 {
-        entry_at(&ONE_LONG, (seventeen >> 3) - 32)
+        entry_at(longs, (seventeen >> 3) - 32)
     } else {
         entry_at(&LONGEST, seventeen)
     }
@@ -43,9 +33,9 @@ pub fn long_pair(one: bool, seventeen: u32) -> &'static ShortPair
         → Stands 17 (if one then coefficient_one else coefficient_zero) seventeen result.now }
 {
     if one {
-        one_long(seventeen)
+        long_at(&ONE_LONG, seventeen)
     } else {
-        zero_long(seventeen)
+        long_at(&ZERO_LONG, seventeen)
     }
 }
 
@@ -55,5 +45,5 @@ pub fn long_first(seventeen: u32) -> &'static ShortPair
     requires { seventeen < 2048 }
     ensures stands { result.now.1 < 64 → Stands 17 first_zero seventeen result.now }
 {
-    zero_long(seventeen)
+    long_at(&ZERO_LONG, seventeen)
 }

@@ -21,26 +21,6 @@ pub fn entry_at(lookup: &[ShortPair], i: u32) -> &ShortPair
     &lookup[i as usize]
 }
 
-/// What nine bits begin with by table B.14.
-#[inline(always)]
-fn zero_short(nine: u32) -> &'static ShortPair
-    requires { nine < 512 }
-    ensures stands { result.now.1 < 64 → Stands 9 coefficient_zero nine result.now }
-    ensures ends { result.now.1 ≡ 128 → Ends 9 coefficient_zero nine result.now }
-{
-    entry_at(&ZERO_SHORT, nine)
-}
-
-/// What nine bits begin with by table B.15.
-#[inline(always)]
-fn one_short(nine: u32) -> &'static ShortPair
-    requires { nine < 512 }
-    ensures stands { result.now.1 < 64 → Stands 9 coefficient_one nine result.now }
-    ensures ends { result.now.1 ≡ 128 → Ends 9 coefficient_one nine result.now }
-{
-    entry_at(&ONE_SHORT, nine)
-}
-
 /// The pair whose code, of nine bits at most, nine bits begin with, by table B.15 where `one` and else by table B.14; run 128
 /// where they begin with the end of the block, and run 64 for anything else. Most coefficients are read so, with one look.
 #[inline(always)]
@@ -52,9 +32,9 @@ pub fn short_pair(one: bool, nine: u32) -> &'static ShortPair
         → Ends 9 (if one then coefficient_one else coefficient_zero) nine result.now }
 {
     if one {
-        one_short(nine)
+        entry_at(&ONE_SHORT, nine)
     } else {
-        zero_short(nine)
+        entry_at(&ZERO_SHORT, nine)
     }
 }
 
@@ -80,7 +60,7 @@ pub fn short_first(nine: u32) -> &'static ShortPair
     ensures stands { result.now.1 < 64 → Stands 9 first_zero nine result.now }
 {
     if nine < 256 {
-        zero_short(nine)
+        entry_at(&ZERO_SHORT, nine)
     } else {
         first_unit(nine)
     }
