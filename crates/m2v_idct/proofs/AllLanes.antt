@@ -1,5 +1,5 @@
 -- Lanes of any width that are passed or computed stand in a goal as their bits, read again; what operations on them leave.
-use Rattle.std.proofs.Common.{zero, suc, replicate, ◌≡◌, ℕ, ◌<◌, ◌≤◌, ◌+◌, ◌-◌, ◌*◌, ◌++◌, ◌+ℤ◌, ◌∙◌, List, [], ◌∷◌, All, length, map, get_or, arith, refl, ap, ℤ, pos, negsuc}
+use Rattle.std.proofs.Common.{zero, suc, replicate, ◌≡◌, ℕ, ◌<◌, ◌≤◌, ◌+◌, ◌-◌, ◌*◌, ◌^◌, ◌++◌, ◌+ℤ◌, ◌∙◌, List, [], ◌∷◌, All, length, map, get_or, arith, refl, ap, ℤ, pos, negsuc}
 use Rattle.std.proofs.lemmas.Int.{ints, to_z-of_z}
 use Rattle.std.proofs.lemmas.List.Elements.{All-head, All-replicate, All-same, All-tail, All-weaker}
 use lib.Lanes.{zip2, Each1, Each2}
@@ -8,12 +8,13 @@ use borrow.Table.Row.{s_int}
 use mir.Syntax.{Width, w16, w32, cast, shr, signed}
 use native.Mathlib.Nat.{suc_inj}
 use Rattle.std.specs.Int.{int_shr}
+use Rattle.std.specs.Int.Signed.{mag_shr}
 use mir.Val.{SFits, to_z, of_z}
 use Rattle.m2v_idct.specs.ForwardLanes.{eight, neighbours}
 use Rattle.m2v_idct.specs.Ranges.{Within}
 use Rattle.m2v_idct.proofs.InPlace.{all_listed}
 use Rattle.m2v_idct.proofs.Passed.{fits, passed}
-use Rattle.m2v_idct.proofs.Projections.{eight_cases}
+use Rattle.m2v_idct.proofs.Projections.{eight_at}
 use Rattle.std.proofs.lemmas.List.{ext_get_or, get_or-append_right, get_or-map, get_or_append_left, length-map}
 
 pub fits_short : (z : ℤ) → Within 32767 z → SFits w16 z
@@ -25,10 +26,6 @@ fits_word z h = fits 2147483647 z (omega arith) h
 
 pub wider : (n m : ℕ) → n ≤ m → (xs : List ℤ) → All (Within n) xs → All (Within m) xs
 wider n m le xs h = All-weaker (Within n) (Within m) (λ z w. (omega (arith, ints, w), omega (arith, ints, w))) xs h
-
--- a line of eight, place by place
-pub eight_at : {A : Type 0} (d : A) (g : ℕ → A) (k : ℕ) → k < 8 → g k ≡ get_or (g 0 ∷ g 1 ∷ g 2 ∷ g 3 ∷ g 4 ∷ g 5 ∷ g 6 ∷ g 7 ∷ []) k d
-eight_at d g = eight_cases (λ k. g k ≡ get_or (g 0 ∷ g 1 ∷ g 2 ∷ g 3 ∷ g 4 ∷ g 5 ∷ g 6 ∷ g 7 ∷ []) k d) refl refl refl refl refl refl refl refl
 
 module _ (w : Width) (most : ℕ) (holds : (z : ℤ) → Within most z → SFits w z) where
   abbrev pub told : List ℤ → List ℤ
@@ -66,29 +63,25 @@ module _ (w : Width) (most : ℕ) (holds : (z : ℤ) → Within most z → SFits
 
   -- an operation on two lanes whose result fits
   module _ (n m k : ℕ) (f : ℤ → ℤ → ℤ) (bound : (a b : ℤ) → Within n a → Within m b → Within k (f a b)) (sn : n ≤ most) (sm : m ≤ most) (sk : k ≤ most) where
+    one : (x y : ℤ) → Within n x → Within m y → SFits w (f (to_z w (of_z w x)) (to_z w (of_z w y))) × (to_z w (of_z w (f (to_z w (of_z w x)) (to_z w (of_z w y)))) ≡ f x y)
+    one x y hx hy =
+        let lx : Within most x = (omega (arith, ints, hx), omega (arith, ints, hx)) in
+        let ly : Within most y = (omega (arith, ints, hy), omega (arith, ints, hy)) in
+        let hk = bound x y hx hy in
+        let l : Within most (f x y) = (omega (arith, ints, hk), omega (arith, ints, hk)) in
+        rw (passed_in x lx, passed_in y ly) (holds (f x y) l, passed_in (f x y) l)
+
     pub both_asked : (xs ys : List ℤ) → All (Within n) xs → All (Within m) ys → Each2 (λ (a b : ℕ). SFits w (f (to_z w a) (to_z w b))) (map (of_z w) xs) (map (of_z w) ys)
     both_asked [] ys hx hy = tt
     both_asked (x ∷ xs) [] hx hy = tt
     both_asked (x ∷ xs) (y ∷ ys) hx hy =
-        let hx0 = All-head (Within n) x xs hx in
-        let hy0 = All-head (Within m) y ys hy in
-        let lx : Within most x = (omega (arith, ints, hx0), omega (arith, ints, hx0)) in
-        let ly : Within most y = (omega (arith, ints, hy0), omega (arith, ints, hy0)) in
-        let hk = bound x y hx0 hy0 in
-        (rw (passed_in x lx, passed_in y ly) (holds (f x y) (omega (arith, ints, hk), omega (arith, ints, hk))), both_asked xs ys (All-tail (Within n) x xs hx) (All-tail (Within m) y ys hy))
+        ((one x y (All-head (Within n) x xs hx) (All-head (Within m) y ys hy)).0, both_asked xs ys (All-tail (Within n) x xs hx) (All-tail (Within m) y ys hy))
 
     pub both_are : (xs ys : List ℤ) → All (Within n) xs → All (Within m) ys → map (to_z w) (zip2 (λ (a b : ℕ). of_z w (f (to_z w a) (to_z w b))) (map (of_z w) xs) (map (of_z w) ys)) ≡ zip2 f xs ys
     both_are [] ys hx hy = refl
     both_are (x ∷ xs) [] hx hy = refl
     both_are (x ∷ xs) (y ∷ ys) hx hy =
-        let hx0 = All-head (Within n) x xs hx in
-        let hy0 = All-head (Within m) y ys hy in
-        let lx : Within most x = (omega (arith, ints, hx0), omega (arith, ints, hx0)) in
-        let ly : Within most y = (omega (arith, ints, hy0), omega (arith, ints, hy0)) in
-        let hk = bound x y hx0 hy0 in
-        let first : to_z w (of_z w (f (to_z w (of_z w x)) (to_z w (of_z w y)))) ≡ f x y =
-        rw (passed_in x lx, passed_in y ly) (passed_in (f x y) (omega (arith, ints, hk), omega (arith, ints, hk))) in
-        λ i. first i ∷ both_are xs ys (All-tail (Within n) x xs hx) (All-tail (Within m) y ys hy) i
+        λ i. (one x y (All-head (Within n) x xs hx) (All-head (Within m) y ys hy)).1 i ∷ both_are xs ys (All-tail (Within n) x xs hx) (All-tail (Within m) y ys hy) i
 
 abbrev pub short_told : List ℤ → List ℤ
 short_told = told w16 32767 fits_short
@@ -149,8 +142,11 @@ abbrev eight_of : (ℕ → ℕ) → List ℕ
 eight_of f = f 0 ∷ f 1 ∷ f 2 ∷ f 3 ∷ f 4 ∷ f 5 ∷ f 6 ∷ f 7 ∷ []
 
 -- lanes shifted by a number of bits
-module _ (s : ℕ) (less : (a : ℤ) → Within 2147483647 a → Within 2147483647 (int_shr a s))
-    (lane_is : (a : ℤ) → act2 (shr signed) (s_int w32) (s_int w32) (s_int w32) (of_z w32 a) s ≡ of_z w32 (int_shr (to_z w32 (of_z w32 a)) s)) where
+less : (s : ℕ) (a : ℤ) → Within 2147483647 a → Within 2147483647 (int_shr a s)
+less s (pos a) h = let e = mag_shr (pos a) (2 ^ s) in (omega (arith, ints, h, e), omega (arith, ints, h, e))
+less s (negsuc a) h = let e = mag_shr (negsuc a) (2 ^ s) in (omega (arith, ints, h, e), omega (arith, ints, h, e))
+
+module _ (s : ℕ) (lane_is : (a : ℤ) → act2 (shr signed) (s_int w32) (s_int w32) (s_int w32) (of_z w32 a) s ≡ of_z w32 (int_shr (to_z w32 (of_z w32 a)) s)) where
   pub shifted_by : (n : ℕ) (xs : List ℤ) → length xs ≡ n → All (Within 2147483647) xs
       → map (to_z w32) (zip2 (act2 (shr signed) (s_int w32) (s_int w32) (s_int w32)) (map (of_z w32) xs) (replicate n s)) ≡ map (λ a. int_shr a s) xs
   shifted_by n [] e h = refl
@@ -158,32 +154,8 @@ module _ (s : ℕ) (less : (a : ℤ) → Within 2147483647 a → Within 21474836
   shifted_by (suc n) (x ∷ xs) e h =
       let hx = All-head (Within 2147483647) x xs h in
       let first : to_z w32 (act2 (shr signed) (s_int w32) (s_int w32) (s_int w32) (of_z w32 x) s) ≡ int_shr x s =
-      ap (to_z w32) (lane_is x) ∙ rw (passed 2147483647 x (omega arith) hx) (passed 2147483647 (int_shr x s) (omega arith) (less x hx)) in
+      ap (to_z w32) (lane_is x) ∙ rw (passed 2147483647 x (omega arith) hx) (passed 2147483647 (int_shr x s) (omega arith) (less s x hx)) in
       λ i. first i ∷ shifted_by n xs (suc_inj e) (All-tail (Within 2147483647) x xs h) i
-
-pub less_16 : (a : ℤ) → Within 2147483647 a → Within 2147483647 (int_shr a 16)
-less_16 (pos a) h = (omega (arith, ints, h), omega (arith, ints, h))
-less_16 (negsuc a) h = (omega (arith, ints, h), omega (arith, ints, h))
-
-pub less_13 : (a : ℤ) → Within 2147483647 a → Within 2147483647 (int_shr a 13)
-less_13 (pos a) h = (omega (arith, ints, h), omega (arith, ints, h))
-less_13 (negsuc a) h = (omega (arith, ints, h), omega (arith, ints, h))
-
-pub less_3 : (a : ℤ) → Within 2147483647 a → Within 2147483647 (int_shr a 3)
-less_3 (pos a) h = (omega (arith, ints, h), omega (arith, ints, h))
-less_3 (negsuc a) h = (omega (arith, ints, h), omega (arith, ints, h))
-
-pub shifted_16 : (n : ℕ) (xs : List ℤ) → length xs ≡ n → All (Within 2147483647) xs
-    → map (to_z w32) (zip2 (act2 (shr signed) (s_int w32) (s_int w32) (s_int w32)) (map (of_z w32) xs) (replicate n 16)) ≡ map (λ a. int_shr a 16) xs
-shifted_16 = shifted_by 16 less_16 (λ a. refl)
-
-pub shifted_13 : (n : ℕ) (xs : List ℤ) → length xs ≡ n → All (Within 2147483647) xs
-    → map (to_z w32) (zip2 (act2 (shr signed) (s_int w32) (s_int w32) (s_int w32)) (map (of_z w32) xs) (replicate n 13)) ≡ map (λ a. int_shr a 13) xs
-shifted_13 = shifted_by 13 less_13 (λ a. refl)
-
-pub shifted_3 : (n : ℕ) (xs : List ℤ) → length xs ≡ n → All (Within 2147483647) xs
-    → map (to_z w32) (zip2 (act2 (shr signed) (s_int w32) (s_int w32) (s_int w32)) (map (of_z w32) xs) (replicate n 3)) ≡ map (λ a. int_shr a 3) xs
-shifted_3 = shifted_by 3 less_3 (λ a. refl)
 
 -- a number eight times
 pub all_same : (n : ℕ) (z : ℤ) → Within n z → All (Within n) (replicate 8 z)

@@ -1,4 +1,5 @@
-use Rattle.std.proofs.Common.{◌≡◌, ℕ, zero, suc, ◌*◌, ◌<◌, ◌≤◌, arith, refl, ℤ, pos, negsuc, neg_ℤ, ◌+ℤ◌, ◌*ℤ◌, ◌≤ℤ◌}
+use Rattle.std.proofs.Common.{ℕ, zero, suc, ◌*◌, ◌<◌, ◌≤◌, arith, T, ℤ, pos, negsuc, neg_ℤ, ◌+ℤ◌, ◌*ℤ◌, ◌≤ℤ◌}
+use Rattle.std.specs.Int.Signed.{le_z, le_z_yes}
 use Rattle.std.proofs.Math.Nat.{mul-le-mul_left}
 use Rattle.std.proofs.lemmas.Int.{ints}
 use Rattle.m2v_idct.specs.Forward.{cosine, projection}
@@ -50,71 +51,43 @@ sum_between (suc n) low high c g h =
     plus_between (sum_below n (λ k. bottom low high (c k))) (sum_below n (λ k. c k *ℤ g k)) (sum_below n (λ k. top low high (c k)))
     (bottom low high (c n)) (c n *ℤ g n) (top low high (c n)) r.0 r.1 t.0 t.1
 
-single_least : (u : ℕ) → u < 8 → neg_ℤ (pos 5931008) ≤ℤ sum_below 8 (λ k. bottom 256 255 (cosine u k))
-unfolding sum_below cosine bottom
-single_least = eight_cases (λ u. neg_ℤ (pos 5931008) ≤ℤ sum_below 8 (λ k. bottom 256 255 (cosine u k)))
-    (let e : sum_below 8 (λ k. bottom 256 255 (cosine 0 k)) ≡ neg_ℤ (pos 5931008) = refl in omega (arith, ints, e))
-    (let e : sum_below 8 (λ k. bottom 256 255 (cosine 1 k)) ≡ neg_ℤ (pos 5364478) = refl in omega (arith, ints, e))
-    (let e : sum_below 8 (λ k. bottom 256 255 (cosine 2 k)) ≡ neg_ℤ (pos 5468722) = refl in omega (arith, ints, e))
-    (let e : sum_below 8 (λ k. bottom 256 255 (cosine 3 k)) ≡ neg_ℤ (pos 5364478) = refl in omega (arith, ints, e))
-    (let e : sum_below 8 (λ k. bottom 256 255 (cosine 4 k)) ≡ neg_ℤ (pos 5919424) = refl in omega (arith, ints, e))
-    (let e : sum_below 8 (λ k. bottom 256 255 (cosine 5 k)) ≡ neg_ℤ (pos 5364478) = refl in omega (arith, ints, e))
-    (let e : sum_below 8 (λ k. bottom 256 255 (cosine 6 k)) ≡ neg_ℤ (pos 5468722) = refl in omega (arith, ints, e))
-    (let e : sum_below 8 (λ k. bottom 256 255 (cosine 7 k)) ≡ neg_ℤ (pos 5364478) = refl in omega (arith, ints, e))
-
-single_most : (u : ℕ) → u < 8 → sum_below 8 (λ k. top 256 255 (cosine u k)) ≤ℤ pos 5919424
-unfolding sum_below cosine top
-single_most = eight_cases (λ u. sum_below 8 (λ k. top 256 255 (cosine u k)) ≤ℤ pos 5919424)
-    (let e : sum_below 8 (λ k. top 256 255 (cosine 0 k)) ≡ pos 5907840 = refl in omega (arith, ints, e))
-    (let e : sum_below 8 (λ k. top 256 255 (cosine 1 k)) ≡ pos 5364478 = refl in omega (arith, ints, e))
-    (let e : sum_below 8 (λ k. top 256 255 (cosine 2 k)) ≡ pos 5468722 = refl in omega (arith, ints, e))
-    (let e : sum_below 8 (λ k. top 256 255 (cosine 3 k)) ≡ pos 5364478 = refl in omega (arith, ints, e))
-    (let e : sum_below 8 (λ k. top 256 255 (cosine 4 k)) ≡ pos 5919424 = refl in omega (arith, ints, e))
-    (let e : sum_below 8 (λ k. top 256 255 (cosine 5 k)) ≡ pos 5364478 = refl in omega (arith, ints, e))
-    (let e : sum_below 8 (λ k. top 256 255 (cosine 6 k)) ≡ pos 5468722 = refl in omega (arith, ints, e))
-    (let e : sum_below 8 (λ k. top 256 255 (cosine 7 k)) ≡ pos 5364478 = refl in omega (arith, ints, e))
-
 between : (a b c d e : ℤ) → a ≤ℤ b → b ≤ℤ c → c ≤ℤ d → d ≤ℤ e → (a ≤ℤ c) × (c ≤ℤ e)
 between a b c d e p q r s = (omega (arith, ints), omega (arith, ints))
+
+-- one is nowhere above the other, as computing tells
+ordered : (f g : ℕ → ℤ) → T (le_z (f 0) (g 0)) → T (le_z (f 1) (g 1)) → T (le_z (f 2) (g 2)) → T (le_z (f 3) (g 3))
+    → T (le_z (f 4) (g 4)) → T (le_z (f 5) (g 5)) → T (le_z (f 6) (g 6)) → T (le_z (f 7) (g 7)) → (u : ℕ) → u < 8 → f u ≤ℤ g u
+ordered f g t0 t1 t2 t3 t4 t5 t6 t7 =
+    eight_cases (λ u. f u ≤ℤ g u) (le_z_yes t0) (le_z_yes t1) (le_z_yes t2) (le_z_yes t3) (le_z_yes t4) (le_z_yes t5) (le_z_yes t6) (le_z_yes t7)
+
+module _ (low high : ℕ) where
+  abbrev least : ℕ → ℤ
+  least u = sum_below 8 (λ k. bottom low high (cosine u k))
+
+  abbrev most : ℕ → ℤ
+  most u = sum_below 8 (λ k. top low high (cosine u k))
+
+  projection_between : (a b : ℤ) → ((u : ℕ) → u < 8 → a ≤ℤ least u) → ((u : ℕ) → u < 8 → most u ≤ℤ b) → (u : ℕ) (g : ℕ → ℤ) → u < 8
+      → ((k : ℕ) → k < 8 → (neg_ℤ (pos low) ≤ℤ g k) × (g k ≤ℤ pos high)) → (a ≤ℤ projection u g) × (projection u g ≤ℤ b)
+  unfolding projection
+  projection_between a b p q u g l h =
+      let s = sum_between 8 low high (cosine u) g h in
+      between a (least u) (sum_below 8 (λ k. cosine u k *ℤ g k)) (most u) b (p u l) s.0 s.1 (q u l)
 
 -- the sum of eight samples, each times a cosine
 pub single_between : (u : ℕ) (g : ℕ → ℤ) → u < 8 → ((k : ℕ) → k < 8 → IsSample (g k))
     → (neg_ℤ (pos 5931008) ≤ℤ projection u g) × (projection u g ≤ℤ pos 5919424)
-unfolding projection
-single_between u g l h =
-    let s = sum_between 8 256 255 (cosine u) g h in
-    between (neg_ℤ (pos 5931008)) (sum_below 8 (λ k. bottom 256 255 (cosine u k))) (sum_below 8 (λ k. cosine u k *ℤ g k))
-    (sum_below 8 (λ k. top 256 255 (cosine u k))) (pos 5919424) (single_least u l) s.0 s.1 (single_most u l)
-
-double_least : (u : ℕ) → u < 8 → neg_ℤ (pos 137409593344) ≤ℤ sum_below 8 (λ k. bottom 5931008 5919424 (cosine u k))
-unfolding sum_below cosine bottom
-double_least = eight_cases (λ u. neg_ℤ (pos 137409593344) ≤ℤ sum_below 8 (λ k. bottom 5931008 5919424 (cosine u k)))
-    (let e : sum_below 8 (λ k. bottom 5931008 5919424 (cosine 0 k)) ≡ neg_ℤ (pos 137409593344) = refl in omega (arith, ints, e))
-    (let e : sum_below 8 (λ k. bottom 5931008 5919424 (cosine 1 k)) ≡ neg_ℤ (pos 124405835136) = refl in omega (arith, ints, e))
-    (let e : sum_below 8 (λ k. bottom 5931008 5919424 (cosine 2 k)) ≡ neg_ℤ (pos 126823323264) = refl in omega (arith, ints, e))
-    (let e : sum_below 8 (λ k. bottom 5931008 5919424 (cosine 3 k)) ≡ neg_ℤ (pos 124405835136) = refl in omega (arith, ints, e))
-    (let e : sum_below 8 (λ k. bottom 5931008 5919424 (cosine 4 k)) ≡ neg_ℤ (pos 137275404288) = refl in omega (arith, ints, e))
-    (let e : sum_below 8 (λ k. bottom 5931008 5919424 (cosine 5 k)) ≡ neg_ℤ (pos 124405835136) = refl in omega (arith, ints, e))
-    (let e : sum_below 8 (λ k. bottom 5931008 5919424 (cosine 6 k)) ≡ neg_ℤ (pos 126823323264) = refl in omega (arith, ints, e))
-    (let e : sum_below 8 (λ k. bottom 5931008 5919424 (cosine 7 k)) ≡ neg_ℤ (pos 124405835136) = refl in omega (arith, ints, e))
-
-double_most : (u : ℕ) → u < 8 → sum_below 8 (λ k. top 5931008 5919424 (cosine u k)) ≤ℤ pos 137275404288
-unfolding sum_below cosine top
-double_most = eight_cases (λ u. sum_below 8 (λ k. top 5931008 5919424 (cosine u k)) ≤ℤ pos 137275404288)
-    (let e : sum_below 8 (λ k. top 5931008 5919424 (cosine 0 k)) ≡ pos 137141215232 = refl in omega (arith, ints, e))
-    (let e : sum_below 8 (λ k. top 5931008 5919424 (cosine 1 k)) ≡ pos 124405835136 = refl in omega (arith, ints, e))
-    (let e : sum_below 8 (λ k. top 5931008 5919424 (cosine 2 k)) ≡ pos 126823323264 = refl in omega (arith, ints, e))
-    (let e : sum_below 8 (λ k. top 5931008 5919424 (cosine 3 k)) ≡ pos 124405835136 = refl in omega (arith, ints, e))
-    (let e : sum_below 8 (λ k. top 5931008 5919424 (cosine 4 k)) ≡ pos 137275404288 = refl in omega (arith, ints, e))
-    (let e : sum_below 8 (λ k. top 5931008 5919424 (cosine 5 k)) ≡ pos 124405835136 = refl in omega (arith, ints, e))
-    (let e : sum_below 8 (λ k. top 5931008 5919424 (cosine 6 k)) ≡ pos 126823323264 = refl in omega (arith, ints, e))
-    (let e : sum_below 8 (λ k. top 5931008 5919424 (cosine 7 k)) ≡ pos 124405835136 = refl in omega (arith, ints, e))
+unfolding sum_below cosine bottom top
+single_between =
+    projection_between 256 255 (neg_ℤ (pos 5931008)) (pos 5919424)
+    (ordered (λ u. neg_ℤ (pos 5931008)) (least 256 255) tt tt tt tt tt tt tt tt)
+    (ordered (most 256 255) (λ u. pos 5919424) tt tt tt tt tt tt tt tt)
 
 -- the sum of eight such sums, each times a cosine
 pub double_between : (u : ℕ) (g : ℕ → ℤ) → u < 8 → ((k : ℕ) → k < 8 → (neg_ℤ (pos 5931008) ≤ℤ g k) × (g k ≤ℤ pos 5919424))
     → IsDoubleSum (projection u g)
-unfolding projection
-double_between u g l h =
-    let s = sum_between 8 5931008 5919424 (cosine u) g h in
-    between (neg_ℤ (pos 137409593344)) (sum_below 8 (λ k. bottom 5931008 5919424 (cosine u k))) (sum_below 8 (λ k. cosine u k *ℤ g k))
-    (sum_below 8 (λ k. top 5931008 5919424 (cosine u k))) (pos 137275404288) (double_least u l) s.0 s.1 (double_most u l)
+unfolding sum_below cosine bottom top
+double_between =
+    projection_between 5931008 5919424 (neg_ℤ (pos 137409593344)) (pos 137275404288)
+    (ordered (λ u. neg_ℤ (pos 137409593344)) (least 5931008 5919424) tt tt tt tt tt tt tt tt)
+    (ordered (most 5931008 5919424) (λ u. pos 137275404288) tt tt tt tt tt tt tt tt)

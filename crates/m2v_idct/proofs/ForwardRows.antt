@@ -9,10 +9,10 @@ use Rattle.m2v_idct.specs.Forward.{cosine, projection}
 use Rattle.m2v_idct.specs.ForwardLanes.{eight, folded, four_times, neighbours}
 use Rattle.m2v_idct.specs.Ranges.{IsSample, Within}
 use Rattle.m2v_idct.specs.Sums.{sum_below}
-use Rattle.m2v_idct.proofs.AllLanes.{all_eight, eight_at, fits_short, fits_word, short_told, word_told, told_as, told_as_within, told_is, wider}
+use Rattle.m2v_idct.proofs.AllLanes.{all_eight, fits_short, fits_word, short_told, word_told, told_as, told_as_within, told_is, wider}
 use Rattle.m2v_idct.proofs.Bounds.{single_between}
 use Rattle.m2v_idct.proofs.ForwardSteps.{all_mapped}
-use Rattle.m2v_idct.proofs.Projections.{projection_listed}
+use Rattle.m2v_idct.proofs.Projections.{eight_at, eight_cases, eight_same, projection_listed}
 use Rattle.m2v_idct.proofs.FourLanes.{difference_bound, sum_bound}
 
 abbrev pub first_cosines : List ℤ
@@ -38,41 +38,15 @@ module _ (g : ℕ → ℤ) where
   abbrev lane : ℕ → ℤ
   lane u = get_or (neighbours (times first_cosines (first_four (folded g)))) u (pos 0) +ℤ get_or (neighbours (times second_cosines (second_four (folded g)))) u (pos 0)
 
-  lane_0 : lane 0 ≡ pos 8 *ℤ projection 0 g
+  each : (u : ℕ) → u < 8 → lane u ≡ pos 8 *ℤ projection u g
   unfolding projection sum_below cosine
-  lane_0 = omega (arith, ints)
-
-  lane_1 : lane 1 ≡ pos 8 *ℤ projection 1 g
-  unfolding projection sum_below cosine
-  lane_1 = omega (arith, ints)
-
-  lane_2 : lane 2 ≡ pos 8 *ℤ projection 2 g
-  unfolding projection sum_below cosine
-  lane_2 = omega (arith, ints)
-
-  lane_3 : lane 3 ≡ pos 8 *ℤ projection 3 g
-  unfolding projection sum_below cosine
-  lane_3 = omega (arith, ints)
-
-  lane_4 : lane 4 ≡ pos 8 *ℤ projection 4 g
-  unfolding projection sum_below cosine
-  lane_4 = omega (arith, ints)
-
-  lane_5 : lane 5 ≡ pos 8 *ℤ projection 5 g
-  unfolding projection sum_below cosine
-  lane_5 = omega (arith, ints)
-
-  lane_6 : lane 6 ≡ pos 8 *ℤ projection 6 g
-  unfolding projection sum_below cosine
-  lane_6 = omega (arith, ints)
-
-  lane_7 : lane 7 ≡ pos 8 *ℤ projection 7 g
-  unfolding projection sum_below cosine
-  lane_7 = omega (arith, ints)
+  each = eight_cases (λ u. lane u ≡ pos 8 *ℤ projection u g)
+      (omega (arith, ints)) (omega (arith, ints)) (omega (arith, ints)) (omega (arith, ints))
+      (omega (arith, ints)) (omega (arith, ints)) (omega (arith, ints)) (omega (arith, ints))
 
   pub lanes_are : zip2 (λ (a b : ℤ). a +ℤ b) (neighbours (times first_cosines (first_four (folded g)))) (neighbours (times second_cosines (second_four (folded g))))
       ≡ eight (λ u. pos 8 *ℤ projection u g)
-  lanes_are = λ i. lane_0 i ∷ lane_1 i ∷ lane_2 i ∷ lane_3 i ∷ lane_4 i ∷ lane_5 i ∷ lane_6 i ∷ lane_7 i ∷ []
+  lanes_are = eight_same lane (λ u. pos 8 *ℤ projection u g) each
 
   -- the sums of a line of samples are small
   module _ (samples : (k : ℕ) → k < 8 → IsSample (g k)) where

@@ -1,5 +1,5 @@
 -- What the steps of the forward transform by lanes leave.
-use Rattle.std.proofs.Common.{◌≡◌, ℕ, ◌<◌, ◌≤◌, ◌-◌, ◌∙◌, List, [], ◌∷◌, All, length, map, get_or, arith, refl, ap, ℤ, pos, negsuc, ◌+ℤ◌, ◌-ℤ◌, ◌*ℤ◌, ◌≤ℤ◌}
+use Rattle.std.proofs.Common.{◌≡◌, ℕ, ◌<◌, ◌≤◌, ◌-◌, ◌∙◌, List, [], ◌∷◌, All, length, map, get_or, arith, refl, ap, ℤ, pos, ◌+ℤ◌, ◌-ℤ◌, ◌*ℤ◌, ◌≤ℤ◌}
 use Rattle.std.specs.Int.{int_shr}
 use Rattle.std.proofs.lemmas.Int.{ints}
 use Rattle.std.proofs.lemmas.List.Elements.{All-cons, All-from_recursion, All-head, All-nil, All-tail}
@@ -10,7 +10,7 @@ use Rattle.m2v_idct.specs.ForwardLanes.{all_rounded, eight, folded, high_of, low
 use Rattle.m2v_idct.specs.Ranges.{Within}
 use Rattle.m2v_idct.proofs.AllLanes.{all_eight, fits_short, fits_word, short_told, word_told, told_as, told_as_within, told_is, wider}
 use Rattle.m2v_idct.proofs.FourLanes.{difference_bound, sum_bound, zipped_within}
-use Rattle.m2v_idct.proofs.Shifts.{shr3_high, shr3_low, shr26_low, shr26_high}
+use Rattle.m2v_idct.proofs.Shifts.{shr3, shr13, shr16, shr26_low, shr26_high}
 
 -- the even and the odd part of a line
 module _ (x : List ℤ) (long : length x ≡ 8) (small : All (Within 256) x) where
@@ -71,28 +71,20 @@ all_mapped n m g bound [] h = All-nil (Within m)
 all_mapped n m g bound (x ∷ xs) h = All-cons (Within m) (g x) (map g xs) (bound x (All-head (Within n) x xs h)) (all_mapped n m g bound xs (All-tail (Within n) x xs h))
 
 -- the two parts of a number
-shr16_low : (z : ℤ) → (pos 65536 *ℤ int_shr z 16) ≤ℤ z
-shr16_low (pos a) = omega (arith, ints)
-shr16_low (negsuc a) = omega (arith, ints)
-
-shr16_high : (z : ℤ) → z ≤ℤ (pos 65536 *ℤ int_shr z 16 +ℤ pos 65535)
-shr16_high (pos a) = omega (arith, ints)
-shr16_high (negsuc a) = omega (arith, ints)
-
 pub high_small : (z : ℤ) → Within 67200000 z → Within 1100 (high_of z)
-high_small z h = let l = shr16_low z in let u = shr16_high z in (omega (arith, ints, h, l, u), omega (arith, ints, h, l, u))
+high_small z h = let b = shr16 z in (omega (arith, ints, h, b), omega (arith, ints, h, b))
 
 abbrev rest : ℤ → ℤ
 rest z = z -ℤ pos 65536 *ℤ high_of z
 
 rest_between : (z : ℤ) → (pos 0 ≤ℤ rest z) × (rest z ≤ℤ pos 65535)
-rest_between z = let l = shr16_low z in let u = shr16_high z in (omega (arith, ints, l, u), omega (arith, ints, l, u))
+rest_between z = let b = shr16 z in (omega (arith, ints, b), omega (arith, ints, b))
 
 rest_small : (z : ℤ) → Within 67200000 z → Within 65535 (rest z)
 rest_small z h = let b = rest_between z in (omega (arith, ints, b), omega (arith, ints, b))
 
 pub low_small : (z : ℤ) → Within 67200000 z → Within 8191 (low_of z)
-low_small z h = let b = rest_between z in let l = shr3_low (rest z) in let u = shr3_high (rest z) in (omega (arith, ints, b, l, u), omega (arith, ints, b, l, u))
+low_small z h = let a = rest_between z in let b = shr3 (rest z) in (omega (arith, ints, a, b), omega (arith, ints, a, b))
 
 rests_are : (xs : List ℤ) → zip2 (λ (a b : ℤ). a -ℤ b) xs (map (λ (a : ℤ). pos 65536 *ℤ a) (map high_of xs)) ≡ map rest xs
 rests_are [] = refl
@@ -152,22 +144,13 @@ pub part_within : (n : ℕ) (p q : List ℤ) → n ≤ 8191 → p ≡ q → All 
 part_within n p q le e h = wider n 8191 le (word_told p) (told_as_within w32 2147483647 fits_word n p q (omega (arith, le)) e h)
 
 -- a sum in two parts, to the nearest
-shr13_low : (z : ℤ) → (pos 8192 *ℤ int_shr z 13) ≤ℤ z
-shr13_low (pos a) = omega (arith, ints)
-shr13_low (negsuc a) = omega (arith, ints)
-
-shr13_high : (z : ℤ) → z ≤ℤ (pos 8192 *ℤ int_shr z 13 +ℤ pos 8191)
-shr13_high (pos a) = omega (arith, ints)
-shr13_high (negsuc a) = omega (arith, ints)
-
 rounded_is : (h l : ℤ) → int_shr (h +ℤ int_shr (l +ℤ pos 33554432) 13) 13 ≡ rounded (pos 8192 *ℤ h +ℤ l)
 rounded_is h l =
     let m = int_shr (l +ℤ pos 33554432) 13 in
-    let a = shr13_low (l +ℤ pos 33554432) in let b = shr13_high (l +ℤ pos 33554432) in
-    let c = shr13_low (h +ℤ m) in let d = shr13_high (h +ℤ m) in
+    let a = shr13 (l +ℤ pos 33554432) in let b = shr13 (h +ℤ m) in
     let z = pos 8192 *ℤ h +ℤ l +ℤ pos 33554432 in
     let e = shr26_low z in let f = shr26_high z in
-    omega (arith, ints, a, b, c, d, e, f)
+    omega (arith, ints, a, b, e, f)
 
 abbrev half : ℤ → ℤ
 half a = a +ℤ pos 33554432
@@ -181,7 +164,7 @@ all_dropped (h ∷ hs) [] = refl
 all_dropped (h ∷ hs) (l ∷ ls) = λ i. rounded_is h l i ∷ all_dropped hs ls i
 
 drop_small : (z : ℤ) → Within 1200000000 z → Within 600000000 (drop z)
-drop_small z h = let l = shr13_low z in let u = shr13_high z in (omega (arith, ints, h, l, u), omega (arith, ints, h, l, u))
+drop_small z h = let b = shr13 z in (omega (arith, ints, h, b), omega (arith, ints, h, b))
 
 module _ (h l : List ℤ) (hh : All (Within 536870912) h) (hl : All (Within 536870912) l) where
   halves_small : All (Within 1200000000) (map half l)
@@ -240,5 +223,5 @@ weighed_told x m r a b a' b' hx ea eb em hm er hr =
 pub parts_join : (z : ℤ) → pos 8192 *ℤ high_of (pos 8 *ℤ z) +ℤ low_of (pos 8 *ℤ z) ≡ z
 parts_join z =
     let y = pos 8 *ℤ z in
-    let b = rest_between y in let l = shr3_low (rest y) in let u = shr3_high (rest y) in
-    omega (arith, ints, b, l, u)
+    let a = rest_between y in let b = shr3 (rest y) in
+    omega (arith, ints, a, b)

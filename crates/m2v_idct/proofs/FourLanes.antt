@@ -1,5 +1,5 @@
 -- What operations on lanes leave, in lists of whole numbers.
-use Rattle.std.proofs.Common.{◌≡◌, ℕ, zero, suc, ◌^◌, ◌+◌, ◌*◌, ◌<◌, ◌≤◌, ◌∙◌, List, [], ◌∷◌, ◌++◌, All, length, map, get_or, replicate, arith, refl, ℤ, pos, negsuc, ◌+ℤ◌, ◌-ℤ◌, ◌*ℤ◌}
+use Rattle.std.proofs.Common.{◌≡◌, ℕ, suc, ◌^◌, ◌+◌, ◌*◌, ◌<◌, ◌≤◌, ◌∙◌, List, [], ◌∷◌, ◌++◌, All, length, map, get_or, replicate, arith, refl, ℤ, pos, negsuc, ◌+ℤ◌, ◌-ℤ◌, ◌*ℤ◌}
 use Rattle.std.specs.Int.{int_shr}
 use Rattle.std.proofs.Math.Nat.{mul-le-mul_left, mul-le-mul_right}
 use Rattle.std.proofs.lemmas.Int.{ints}
@@ -9,31 +9,19 @@ use borrow.Rule.Simd.Lanes.{act2}
 use borrow.Table.Row.{s_int}
 use mir.Syntax.{w32, shr, signed}
 use mir.Val.{SFits, to_z, of_z}
-use native.Mathlib.Nat.{suc_inj}
 use Rattle.m2v_idct.specs.Ranges.{Within}
 use Rattle.m2v_idct.specs.RowSums.{both_ways}
-use Rattle.m2v_idct.proofs.Passed.{fits, passed}
-use Rattle.m2v_idct.proofs.Shifts.{shr8_low, shr8_high}
+use Rattle.m2v_idct.proofs.AllLanes.{both_are, both_asked, fits_word, shifted_by, wider}
+use Rattle.m2v_idct.proofs.Passed.{passed}
+use Rattle.m2v_idct.proofs.Shifts.{shr8}
 
 -- an operation on two lanes whose result fits
 module _ (n m k : ℕ) (f : ℤ → ℤ → ℤ) (bound : (a b : ℤ) → Within n a → Within m b → Within k (f a b)) (sn : n < 2 ^ 31) (sm : m < 2 ^ 31) (sk : k < 2 ^ 31) where
   pub asked : (xs ys : List ℤ) → All (Within n) xs → All (Within m) ys → Each2 (λ (a b : ℕ). SFits w32 (f (to_z w32 a) (to_z w32 b))) (map (of_z w32) xs) (map (of_z w32) ys)
-  asked [] ys hx hy = tt
-  asked (x ∷ xs) [] hx hy = tt
-  asked (x ∷ xs) (y ∷ ys) hx hy =
-      let hx0 = All-head (Within n) x xs hx in
-      let hy0 = All-head (Within m) y ys hy in
-      (rw (passed n x sn hx0, passed m y sm hy0) (fits k (f x y) sk (bound x y hx0 hy0)), asked xs ys (All-tail (Within n) x xs hx) (All-tail (Within m) y ys hy))
+  asked = both_asked w32 2147483647 fits_word n m k f bound (omega arith) (omega arith) (omega arith)
 
   pub zipped : (xs ys : List ℤ) → All (Within n) xs → All (Within m) ys → map (to_z w32) (zip2 (λ (a b : ℕ). of_z w32 (f (to_z w32 a) (to_z w32 b))) (map (of_z w32) xs) (map (of_z w32) ys)) ≡ zip2 f xs ys
-  zipped [] ys hx hy = refl
-  zipped (x ∷ xs) [] hx hy = refl
-  zipped (x ∷ xs) (y ∷ ys) hx hy =
-      let hx0 = All-head (Within n) x xs hx in
-      let hy0 = All-head (Within m) y ys hy in
-      let first : to_z w32 (of_z w32 (f (to_z w32 (of_z w32 x)) (to_z w32 (of_z w32 y)))) ≡ f x y =
-      rw (passed n x sn hx0, passed m y sm hy0) (passed k (f x y) sk (bound x y hx0 hy0)) in
-      λ i. first i ∷ zipped xs ys (All-tail (Within n) x xs hx) (All-tail (Within m) y ys hy) i
+  zipped = both_are w32 2147483647 fits_word n m k f bound (omega arith) (omega arith) (omega arith)
 
   pub zipped_within : (xs ys : List ℤ) → All (Within n) xs → All (Within m) ys → All (Within k) (zip2 f xs ys)
   zipped_within [] ys hx hy = All-nil (Within k)
@@ -68,17 +56,11 @@ product_bound n m k le (negsuc a) (negsuc b) ha hb =
 
 -- lanes shifted by eight
 shift_within : (a : ℤ) → Within 2000000000 a → Within 1000000000 (int_shr a 8)
-shift_within a h = let l = shr8_low a in let u = shr8_high a in (omega (arith, ints, h.0, h.1), omega (arith, ints, h.0, h.1))
+shift_within a h = let b = shr8 a in (omega (arith, ints, h, b), omega (arith, ints, h, b))
 
 pub shifts : (n : ℕ) (xs : List ℤ) → length xs ≡ n → All (Within 2000000000) xs
     → map (to_z w32) (zip2 (act2 (shr signed) (s_int w32) (s_int w32) (s_int w32)) (map (of_z w32) xs) (replicate n 8)) ≡ map (λ a. int_shr a 8) xs
-shifts n [] e h = refl
-shifts zero (x ∷ xs) e h = absurd (omega arith)
-shifts (suc n) (x ∷ xs) e h =
-    let hx = All-head (Within 2000000000) x xs h in
-    let first : to_z w32 (act2 (shr signed) (s_int w32) (s_int w32) (s_int w32) (of_z w32 x) 8) ≡ int_shr x 8 =
-    rw (passed 2000000000 x (omega arith) hx) (passed 1000000000 (int_shr x 8) (omega arith) (shift_within x hx)) in
-    λ i. first i ∷ shifts n xs (suc_inj e) (All-tail (Within 2000000000) x xs h) i
+shifts n xs e h = shifted_by 8 (λ a. refl) n xs e (wider 2000000000 2147483647 (omega arith) xs h)
 
 pub shifts_within : (xs : List ℤ) → All (Within 2000000000) xs → All (Within 1000000000) (map (λ a. int_shr a 8) xs)
 shifts_within [] h = All-nil (Within 1000000000)

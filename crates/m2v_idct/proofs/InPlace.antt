@@ -1,5 +1,5 @@
 -- Rows and columns that are transformed where they stand.
-use Rattle.std.proofs.Common.{◌≡◌, ℕ, zero, suc, ◌+◌, ◌-◌, ◌*◌, ◌/◌, ◌%◌, ◌<◌, ◌≤◌, inl, inr, ◌∙◌, sym, refl, List, [], ◌∷◌, All, get_or, length, take, drop, arith, ap, subst, ℤ, pos, ◌*ℤ◌}
+use Rattle.std.proofs.Common.{◌≡◌, ℕ, zero, suc, ◌+◌, ◌-◌, ◌*◌, ◌/◌, ◌%◌, ◌<◌, ◌≤◌, inl, inr, ◌∙◌, sym, List, [], ◌∷◌, All, get_or, length, take, drop, arith, ap, subst, ℤ, pos, ◌*ℤ◌}
 use Rattle.std.proofs.lemmas.List.{ext_get_or, get_or-drop, get_or-replicate, get_or-take, length-drop, length-take-le}
 use Rattle.std.proofs.lemmas.List.Elements.{All-from_get_or}
 use Rattle.std.specs.Int.{bit_at}
@@ -10,19 +10,12 @@ use Rattle.m2v_idct.specs.Ranges.{IsInRows}
 use Rattle.std.proofs.lemmas.Nat.{and_le_l, le_or_l, le_or_r}
 use Rattle.m2v_idct.specs.Block.{at}
 use Rattle.m2v_idct.specs.Inverse.{after_rows, row}
+use Rattle.m2v_idct.proofs.Projections.{eight_at, eight_same}
 use Rattle.m2v_idct.proofs.Rows.{row_flat}
 
 -- eight numbers by their places
 pub listed_at : (g : ℕ → ℤ) (k : ℕ) → k < 8 → get_or (g 0 ∷ g 1 ∷ g 2 ∷ g 3 ∷ g 4 ∷ g 5 ∷ g 6 ∷ g 7 ∷ []) k (pos 0) ≡ g k
-listed_at g zero lt = refl
-listed_at g (suc zero) lt = refl
-listed_at g (suc (suc zero)) lt = refl
-listed_at g (suc (suc (suc zero))) lt = refl
-listed_at g (suc (suc (suc (suc zero)))) lt = refl
-listed_at g (suc (suc (suc (suc (suc zero))))) lt = refl
-listed_at g (suc (suc (suc (suc (suc (suc zero)))))) lt = refl
-listed_at g (suc (suc (suc (suc (suc (suc (suc zero))))))) lt = refl
-listed_at g (suc (suc (suc (suc (suc (suc (suc (suc k)))))))) lt = absurd (omega arith)
+listed_at g k lt = sym (eight_at (pos 0) g k lt)
 
 pub all_listed : (P : ℤ → Type 0) (g : ℕ → ℤ) (xs : List ℤ) → xs ≡ g 0 ∷ g 1 ∷ g 2 ∷ g 3 ∷ g 4 ∷ g 5 ∷ g 6 ∷ g 7 ∷ []
     → ((k : ℕ) → k < 8 → P (g k)) → All P xs
@@ -32,10 +25,7 @@ all_listed P g xs e h =
 
 pub row_same : (g h : ℕ → ℤ) → ((k : ℕ) → k < 8 → g k ≡ h k) → row g ≡ row h
 unfolding row
-row_same g h e =
-    let e0 = e 0 (omega arith) in let e1 = e 1 (omega arith) in let e2 = e 2 (omega arith) in let e3 = e 3 (omega arith) in
-    let e4 = e 4 (omega arith) in let e5 = e 5 (omega arith) in let e6 = e 6 (omega arith) in let e7 = e 7 (omega arith) in
-    ap (λ zs. row (λ k. get_or zs k (pos 0))) (λ i. e0 i ∷ e1 i ∷ e2 i ∷ e3 i ∷ e4 i ∷ e5 i ∷ e6 i ∷ e7 i ∷ [])
+row_same g h e = ap (λ zs. row (λ k. get_or zs k (pos 0))) (eight_same g h e)
 
 -- a row by another block's
 pub after_same : (b d : List ℤ) (y : ℕ) → ((k : ℕ) → k < 8 → at b y k ≡ at d y k) → (k : ℕ) → after_rows b y k ≡ after_rows d y k

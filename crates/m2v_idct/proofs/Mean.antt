@@ -9,21 +9,13 @@ use Rattle.std.proofs.lemmas.List.Elements.{All-from_recursion}
 use Rattle.m2v_idct.specs.Block.{at}
 use Rattle.m2v_idct.specs.Inverse.{w1, w7, after_rows, clip, column, combine, eighth, inverse_at, inverse_of, row, scaled}
 use Rattle.m2v_idct.specs.Ranges.{Within}
-use Rattle.m2v_idct.proofs.Shifts.{shr3_low, shr3_high, shr8_low, shr8_high}
+use Rattle.m2v_idct.proofs.Shifts.{scaled_within, shr3, shr14}
 use Rattle.m2v_idct.proofs.Rows.{column_same, row_flat}
 use Rattle.m2v_idct.proofs.Blocks.{block_is}
 use Rattle.m2v_idct.proofs.InPlace.{row_same, listed_at}
 
-shr14_low : (z : ℤ) → (pos 16384 *ℤ int_shr z 14) ≤ℤ z
-shr14_low (pos a) = omega (arith, ints)
-shr14_low (negsuc a) = omega (arith, ints)
-
-shr14_high : (z : ℤ) → z ≤ℤ (pos 16384 *ℤ int_shr z 14 +ℤ pos 16383)
-shr14_high (pos a) = omega (arith, ints)
-shr14_high (negsuc a) = omega (arith, ints)
-
 shr14_is : (z r : ℤ) → (pos 16384 *ℤ r) ≤ℤ z → z ≤ℤ (pos 16384 *ℤ r +ℤ pos 16383) → int_shr z 14 ≡ r
-shr14_is z r low high = let l = shr14_low z in let h = shr14_high z in omega (arith, ints)
+shr14_is z r low high = let b = shr14 z in omega (arith, ints, b)
 
 -- c is a fourth away from where the rounding of its eighth changes
 abbrev pub IsFar : ℤ → ℤ → Type 0
@@ -35,24 +27,14 @@ rounds c q d z far small e = shr14_is z q (omega (arith, ints, far.0, small.0)) 
 -- an odd term of a column in which only the last number is small
 small_one : (v : ℤ) → Within 11 v → Within 778 (eighth (w1 *ℤ pos 0 +ℤ w7 *ℤ v))
 unfolding eighth
-small_one v h =
-    let l = shr3_low (w1 *ℤ pos 0 +ℤ w7 *ℤ v +ℤ pos 4) in
-    let u = shr3_high (w1 *ℤ pos 0 +ℤ w7 *ℤ v +ℤ pos 4) in
-    (omega (arith, ints, h.0, h.1), omega (arith, ints, h.0, h.1))
+small_one v h = let b = shr3 (w1 *ℤ pos 0 +ℤ w7 *ℤ v +ℤ pos 4) in (omega (arith, ints, h, b), omega (arith, ints, h, b))
 
 small_seven : (v : ℤ) → Within 11 v → Within 3907 (eighth (w7 *ℤ pos 0 -ℤ w1 *ℤ v))
 unfolding eighth
-small_seven v h =
-    let l = shr3_low (w7 *ℤ pos 0 -ℤ w1 *ℤ v +ℤ pos 4) in
-    let u = shr3_high (w7 *ℤ pos 0 -ℤ w1 *ℤ v +ℤ pos 4) in
-    (omega (arith, ints, h.0, h.1), omega (arith, ints, h.0, h.1))
+small_seven v h = let b = shr3 (w7 *ℤ pos 0 -ℤ w1 *ℤ v +ℤ pos 4) in (omega (arith, ints, h, b), omega (arith, ints, h, b))
 
 scaled_small : (t : ℤ) → Within 4700 t → Within 4095 (scaled t)
-unfolding scaled
-scaled_small t h =
-    let l = shr8_low (pos 181 *ℤ t +ℤ pos 128) in
-    let u = shr8_high (pos 181 *ℤ t +ℤ pos 128) in
-    (omega (arith, ints, h.0, h.1), omega (arith, ints, h.0, h.1))
+scaled_small = scaled_within 4700 4095 (omega arith)
 
 minus_small : (d : ℤ) → Within 4095 d → Within 4095 (pos 0 -ℤ d)
 minus_small d h = (omega (arith, ints, h.0, h.1), omega (arith, ints, h.0, h.1))

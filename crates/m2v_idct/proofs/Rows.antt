@@ -1,11 +1,12 @@
 use Rattle.std.proofs.Common.{◌≡◌, ℕ, ◌+◌, ◌*◌, ◌<◌, ◌≤◌, ◌∙◌, sym, List, [], ◌∷◌, All, length, get_or, arith, ap, ℤ, pos, ◌+ℤ◌, ◌-ℤ◌, ◌*ℤ◌}
 use Rattle.std.specs.Int.{int_shr}
 use Rattle.std.proofs.lemmas.Int.{ints}
-use Rattle.std.proofs.lemmas.List.Elements.{All-from_recursion}
 use Rattle.m2v_idct.specs.Block.{at}
 use Rattle.m2v_idct.specs.Inverse.{w1, w2, w3, w5, w6, w7, after_rows, column, combine, row, scaled}
 use Rattle.m2v_idct.specs.Ranges.{IsCoefficient, Within}
-use Rattle.m2v_idct.proofs.Shifts.{shr8_low, shr8_high, shr8_is}
+use Rattle.m2v_idct.proofs.Columns.{combine_within}
+use Rattle.m2v_idct.proofs.Projections.{eight_same}
+use Rattle.m2v_idct.proofs.Shifts.{shr8, shr8_is}
 
 -- a row and a column know eight numbers
 pub row_listed : (g : ℕ → ℤ) (xs : List ℤ) → xs ≡ g 0 ∷ g 1 ∷ g 2 ∷ g 3 ∷ g 4 ∷ g 5 ∷ g 6 ∷ g 7 ∷ []
@@ -20,10 +21,7 @@ column_listed g xs e = ap (λ zs. column (λ k. get_or zs k (pos 0))) e
 
 pub column_same : (g h : ℕ → ℤ) → ((k : ℕ) → k < 8 → g k ≡ h k) → column g ≡ column h
 unfolding column
-column_same g h e =
-    let e0 = e 0 (omega arith) in let e1 = e 1 (omega arith) in let e2 = e 2 (omega arith) in let e3 = e 3 (omega arith) in
-    let e4 = e 4 (omega arith) in let e5 = e 5 (omega arith) in let e6 = e 6 (omega arith) in let e7 = e 7 (omega arith) in
-    ap (λ zs. column (λ k. get_or zs k (pos 0))) (λ i. e0 i ∷ e1 i ∷ e2 i ∷ e3 i ∷ e4 i ∷ e5 i ∷ e6 i ∷ e7 i ∷ [])
+column_same g h e = ap (λ zs. column (λ k. get_or zs k (pos 0))) (eight_same g h e)
 
 part_of_flat : (z s : ℤ) → s ≡ pos 2048 *ℤ z +ℤ pos 128 → int_shr s 8 ≡ pos 8 *ℤ z
 part_of_flat z s e = sym (shr8_is s (pos 8 *ℤ z) (omega (arith, ints)) (omega (arith, ints)))
@@ -57,69 +55,15 @@ row_flat g h r e =
     (sym (λ i. g 0 ∷ e1 i ∷ e2 i ∷ e3 i ∷ e4 i ∷ e5 i ∷ e6 i ∷ e7 i ∷ []))
 
 -- bounds
-scaled_within : (t : ℤ) → Within 33600000 t → Within 23800000 (scaled t)
-unfolding scaled
-scaled_within t h =
-    let l = shr8_low (pos 181 *ℤ t +ℤ pos 128) in
-    let u = shr8_high (pos 181 *ℤ t +ℤ pos 128) in
-    (omega (arith, ints, h.0, h.1), omega (arith, ints, h.0, h.1))
-
-shifted_within : (z : ℤ) → Within 40900000 z → Within 160000 (int_shr z 8)
-shifted_within z h = let l = shr8_low z in let u = shr8_high z in (omega (arith, ints, h.0, h.1), omega (arith, ints, h.0, h.1))
-
-plus_plus_within : (p e o : ℤ) → Within 8400000 p → Within 8400000 e → Within 23800000 o → Within 40900000 (p +ℤ e +ℤ o)
-plus_plus_within p e o hp he ho = (omega (arith, ints), omega (arith, ints))
-
-plus_minus_within : (p e o : ℤ) → Within 8400000 p → Within 8400000 e → Within 23800000 o → Within 40900000 (p +ℤ e -ℤ o)
-plus_minus_within p e o hp he ho = (omega (arith, ints), omega (arith, ints))
-
-minus_plus_within : (p e o : ℤ) → Within 8400000 p → Within 8400000 e → Within 23800000 o → Within 40900000 (p -ℤ e +ℤ o)
-minus_plus_within p e o hp he ho = (omega (arith, ints), omega (arith, ints))
-
-minus_minus_within : (p e o : ℤ) → Within 8400000 p → Within 8400000 e → Within 23800000 o → Within 40900000 (p -ℤ e -ℤ o)
-minus_minus_within p e o hp he ho = (omega (arith, ints), omega (arith, ints))
-
-combine_within : (a1 a7 a5 a3 e2 e6 p m : ℤ) → Within 8400000 a1 → Within 8400000 a7 → Within 8400000 a5 → Within 8400000 a3
-    → Within 8400000 e2 → Within 8400000 e6 → Within 8400000 p → Within 8400000 m
-    → All (Within 160000) (combine a1 a7 a5 a3 e2 e6 p m 8)
-unfolding combine
-combine_within a1 a7 a5 a3 e2 e6 p m h1 h7 h5 h3 g2 g6 hp hm =
-    let x = scaled ((a1 -ℤ a5) +ℤ (a7 -ℤ a3)) in
-    let y = scaled ((a1 -ℤ a5) -ℤ (a7 -ℤ a3)) in
-    let hx = scaled_within ((a1 -ℤ a5) +ℤ (a7 -ℤ a3)) (omega (arith, ints), omega (arith, ints)) in
-    let hy = scaled_within ((a1 -ℤ a5) -ℤ (a7 -ℤ a3)) (omega (arith, ints), omega (arith, ints)) in
-    All-from_recursion (Within 160000) (combine a1 a7 a5 a3 e2 e6 p m 8) (
-      shifted_within (p +ℤ e2 +ℤ (a1 +ℤ a5)) (plus_plus_within p e2 (a1 +ℤ a5) hp g2 (omega (arith, ints), omega (arith, ints))),
-      (
-        shifted_within (m +ℤ e6 +ℤ x) (plus_plus_within m e6 x hm g6 hx),
-        (
-          shifted_within (m -ℤ e6 +ℤ y) (minus_plus_within m e6 y hm g6 hy),
-          (
-            shifted_within (p -ℤ e2 +ℤ (a7 +ℤ a3)) (minus_plus_within p e2 (a7 +ℤ a3) hp g2 (omega (arith, ints), omega (arith, ints))),
-            (
-              shifted_within (p -ℤ e2 -ℤ (a7 +ℤ a3)) (minus_minus_within p e2 (a7 +ℤ a3) hp g2 (omega (arith, ints), omega (arith, ints))),
-              (
-                shifted_within (m -ℤ e6 -ℤ y) (minus_minus_within m e6 y hm g6 hy),
-                (
-                  shifted_within (m +ℤ e6 -ℤ x) (plus_minus_within m e6 x hm g6 hx),
-                  (
-                    shifted_within (p +ℤ e2 -ℤ (a1 +ℤ a5)) (plus_minus_within p e2 (a1 +ℤ a5) hp g2 (omega (arith, ints), omega (arith, ints))),
-                    tt,
-                  ),
-                ),
-              ),
-            ),
-          ),
-        ),
-      ),
-    )
+drop_within : (z : ℤ) → Within 40600000 z → Within 160000 (int_shr z 8)
+drop_within z h = let b = shr8 z in (omega (arith, ints, h, b), omega (arith, ints, h, b))
 
 pub row_within : (b : ℕ → ℤ) → ((k : ℕ) → k < 8 → Within 2048 (b k)) → All (Within 160000) (row b)
 unfolding row
 row_within b h =
     let h0 = h 0 (omega arith) in let h1 = h 1 (omega arith) in let h2 = h 2 (omega arith) in let h3 = h 3 (omega arith) in
     let h4 = h 4 (omega arith) in let h5 = h 5 (omega arith) in let h6 = h 6 (omega arith) in let h7 = h 7 (omega arith) in
-    combine_within
+    combine_within 8400000 23800000 160000 8 (omega arith) (omega arith) drop_within
     (w1 *ℤ b 1 +ℤ w7 *ℤ b 7) (w7 *ℤ b 1 -ℤ w1 *ℤ b 7)
     (w3 *ℤ b 3 +ℤ w5 *ℤ b 5) (w3 *ℤ b 5 -ℤ w5 *ℤ b 3)
     (w2 *ℤ b 2 +ℤ w6 *ℤ b 6) (w6 *ℤ b 2 -ℤ w2 *ℤ b 6)

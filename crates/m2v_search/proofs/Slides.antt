@@ -68,34 +68,32 @@ half_known p xs sums from k few is =
     λ t. pair_known p.first p.second xs sums (from + k) k (at k (from + k) (omega arith) (omega arith)) (at (k + 4) (from + k + 4) (omega arith) (omega arith)) t
     + pair_known p.third p.fourth xs sums (from + k + 8) (k + 8) (at (k + 8) (from + k + 8) (omega arith) (omega arith)) (at (k + 8 + 4) (from + k + 8 + 4) (omega arith) (omega arith)) t
 
--- one line more of sums
+-- one line more of sums, of which there are so many in each line
+line_put : (few : ℕ) → few ≤ 48 → (f : ℕ → ℕ) (first line : ℕ) (old new : List ℕ)
+    → ((y x : ℕ) → first ≤ y → y < line → x < few → get_or old (48 * y + x) 0 ≡ f (48 * y + x))
+    → ((k : ℕ) → k < few → get_or new (48 * line + k) 0 ≡ f (48 * line + k))
+    → ((i : ℕ) → i < 48 * line → get_or new i 0 ≡ get_or old i 0)
+    → (y x : ℕ) → first ≤ y → y < line + 1 → x < few → get_or new (48 * y + x) 0 ≡ f (48 * y + x)
+line_put few most f first line old new is here before y x le lt small = elim (cases_lt y line) [
+  | inl less ↦ before (48 * y + x) (omega arith) ∙ is y x le less small
+  | inr more ↦
+      let same : y ≡ line = omega arith in
+      ap (λ n. get_or new (48 * n + x) 0) same ∙ here x small ∙ ap (λ n. f (48 * n + x)) (sym same)
+]
+
 pub sums_more : (f : ℕ → ℕ) (first line : ℕ) (old new : List ℕ)
     → AreSums f first line (λ i. get_or old i 0)
     → ((k : ℕ) → k < 44 → get_or new (48 * line + k) 0 ≡ part_sum 48 f (48 * line + k))
     → ((i : ℕ) → i < 48 * line → get_or new i 0 ≡ get_or old i 0)
     → AreSums f first (line + 1) (λ i. get_or new i 0)
-sums_more f first line old new is here before = record {
-  value = λ y x le lt few. elim (cases_lt y line) [
-    | inl less ↦ before (48 * y + x) (omega arith) ∙ is.value y x le less few
-    | inr more ↦
-        let same : y ≡ line = omega arith in
-        ap (λ n. get_or new (48 * n + x) 0) same ∙ here x few ∙ ap (λ n. part_sum 48 f (48 * n + x)) (sym same)
-  ];
-}
+sums_more f first line old new is here before = record { value = line_put 44 (omega arith) (part_sum 48 f) first line old new is.value here before }
 
 pub wide_more : (f : ℕ → ℕ) (first line : ℕ) (old new : List ℕ)
     → AreWideSums f first line (λ i. get_or old i 0)
     → ((k : ℕ) → k < 40 → get_or new (48 * line + k) 0 ≡ twice 4 (part_sum 48 f) (48 * line + k))
     → ((i : ℕ) → i < 48 * line → get_or new i 0 ≡ get_or old i 0)
     → AreWideSums f first (line + 1) (λ i. get_or new i 0)
-wide_more f first line old new is here before = record {
-  value = λ y x le lt few. elim (cases_lt y line) [
-    | inl less ↦ before (48 * y + x) (omega arith) ∙ is.value y x le less few
-    | inr more ↦
-        let same : y ≡ line = omega arith in
-        ap (λ n. get_or new (48 * n + x) 0) same ∙ here x few ∙ ap (λ n. twice 4 (part_sum 48 f) (48 * n + x)) (sym same)
-  ];
-}
+wide_more f first line old new is here before = record { value = line_put 40 (omega arith) (twice 4 (part_sum 48 f)) first line old new is.value here before }
 
 pub no_wide_sums : (f : ℕ → ℕ) (first : ℕ) (sums : ℕ → ℕ) → AreWideSums f first first sums
 no_wide_sums f first sums = record { value = λ y x le lt few. absurd (omega arith) }

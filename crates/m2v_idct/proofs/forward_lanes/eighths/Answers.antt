@@ -1,6 +1,6 @@
-use Rattle.std.proofs.Common.{arith}
-use Rattle.m2v_idct.proofs.AllLanes.{shifted_3, wider}
+use Rattle.std.proofs.Common.{arith, refl}
+use Rattle.m2v_idct.proofs.AllLanes.{shifted_by, wider}
 use Rattle.m2v_idct.proofs.forward_lanes.eighths.Goals as goal
 
 pub returns : goal.returns
-returns c = shifted_3 8 c.args.x c.requires.len (wider 65535 2147483647 (omega arith) c.args.x c.requires.within)
+returns c = shifted_by 3 (λ a. refl) 8 c.args.x c.requires.len (wider 65535 2147483647 (omega arith) c.args.x c.requires.within)
