@@ -263,6 +263,20 @@ code_of_cases same (s ∷ t) v =
 pub code_of_none : {V : Type 0} (same : V → V → Bool) (t : List (Row V)) (v : V) → ((r : Row V) → In t r → same r.value v ≡ true → ⊥) → code_of same t v ≡ []
 code_of_none same t v h = elim (code_of_cases same t v) [ inl x ↦ absurd (h x.0 x.1 x.2) | inr e ↦ e ]
 
+-- a value that a row has, has a code of some bits
+pub value_some : {V : Type 0} (same : V → V → Bool) (t : List (Row V)) (r : Row V) (v : V) → is_free t ≡ true → In t r → same r.value v ≡ true → 0 < length (code_of same t v)
+unfolding code_of
+value_some same [] r v free i is = absurd i
+value_some {V} same (s ∷ t) r v free i is =
+    let h = free_parts s t free in
+    elim (cases_Bool (same s.value v)) [
+      | inl on ↦ rw (cond-true (same s.value v) (code s) (code_of same t v) on) (omega (arith, length-bits_of s.len s.number, (code_parts s h.0).0))
+      | inr off ↦ rw (cond-false (same s.value v) (code s) (code_of same t v) off) (elim i [
+        | inl e ↦ absurd (both_ways (same s.value v) off (subst (λ (x : Row V). same x.value v ≡ true) (sym e) is))
+        | inr j ↦ value_some same t r v h.2 j is
+      ])
+    ]
+
 pub length_within : {V : Type 0} (same : V → V → Bool) (w : ℕ) (t : List (Row V)) (v : V) → is_within w t ≡ true → length (code_of same t v) ≤ w
 length_within same w t v f = elim (code_of_cases same t v) [
   | inl x ↦ omega (arith, ap length x.3, length-bits_of (x.0).len (x.0).number, within_in w t x.0 f x.1)

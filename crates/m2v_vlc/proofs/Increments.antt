@@ -70,7 +70,7 @@ pub increment_length : (v : Increment) → length (increment_code v) ≤ 11
 increment_length v = length_within same_increment 11 increment v increment_checked.within
 
 -- each increment has a code
-increment_some : (v : Increment) → IsIncrement v → 0 < length (increment_code v)
+pub increment_some : (v : Increment) → IsIncrement v → 0 < length (increment_code v)
 increment_some (Step n) is = omega (arith, ap length (step_index n is.0 is.1), code_some increment (n - 1) increment_checked.free (omega (arith, increment_len, is.0, is.1)))
 increment_some Escape is = omega (arith, ap length escape_index, code_some increment 33 increment_checked.free (omega (arith, increment_len)))
 

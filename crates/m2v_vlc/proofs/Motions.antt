@@ -57,7 +57,7 @@ module _ {most : ℕ} {t : List (Row ℤ)} (are : AreSigned most t) where
   signed_index_none (negsuc m) n is far = signed_none (negsuc m) (λ e. omega (arith, is, ltb-true m most e))
 
   -- each value within the range has a code
-  signed_some : (v : ℤ) → is_free t ≡ true → minus most ≤ℤ v → v ≤ℤ pos most → 0 < length (code_of same_signed t v)
+  pub signed_some : (v : ℤ) → is_free t ≡ true → minus most ≤ℤ v → v ≤ℤ pos most → 0 < length (code_of same_signed t v)
   signed_some (pos n) free low high =
       let le : n ≤ most = omega (arith, ints) in
       omega (arith, ap length (signed_up n le), code_some t (most + n) free (omega (arith, are.len, le)))

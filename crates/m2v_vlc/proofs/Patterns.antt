@@ -62,7 +62,7 @@ pub pattern_length : (v : ℕ) → length (pattern_code v) ≤ 9
 pattern_length v = length_within same_number 9 block_pattern v pattern_checked.within
 
 -- each pattern from 1 to 63 has a code
-pattern_some : (v : ℕ) → 0 < v → v < 64 → 0 < length (pattern_code v)
+pub pattern_some : (v : ℕ) → 0 < v → v < 64 → 0 < length (pattern_code v)
 pattern_some v some lt = omega (arith, ap length (pattern_index v (λ z. omega arith)), code_some block_pattern (v - 1) pattern_checked.free (omega (arith, pattern_len)))
 
 pub pattern_spells : {K : Type 0} (cut none : K) (v : ℕ) → 0 < v → v < 64 → Spells (code_at cut none block_pattern) v (pattern_code v)

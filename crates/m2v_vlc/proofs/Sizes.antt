@@ -10,10 +10,10 @@ use Rattle.m2v_vlc.specs.Values.{same_number}
 use Rattle.m2v_vlc.specs.Tables.{dc_luma, dc_luma_code, dc_chroma, dc_chroma_code}
 use Rattle.m2v_vlc.specs.Lookups.{code_in}
 use Rattle.m2v_vlc.specs.declared.size_rows.TheConstants.{LUMA_ROWS, LUMA_AT, CHROMA_ROWS, CHROMA_AT}
-use Rattle.m2v_vlc.proofs.CodeLaws.{code_strict, code_of_none, length_within, code_spells, spelled_once}
+use Rattle.m2v_vlc.proofs.CodeLaws.{code_strict, code_of_none, length_within, code_spells}
 use Rattle.m2v_vlc.proofs.LookupLaws.{holds, code_some}
 use Rattle.m2v_vlc.proofs.ValueLaws.{number_sound, number_reflexive, all_in, below, agree}
-use Rattle.m2v_vlc.proofs.Checks.{Checked}
+use Rattle.m2v_vlc.proofs.Checks.{Checked, once_of}
 
 abbrev pub is_size : ℕ → Bool
 is_size v = ltb v 12
@@ -37,7 +37,7 @@ module _ {t : List (Row ℕ)} (are : AreSizes t) where
   size_index v = elim (cases_lt v 12) [ inl lt ↦ agree (code_in t) (code_of same_number t) 12 v are.codes lt | inr far ↦ get_or_past (map code t) v [] (omega (arith, are.len)) ∙ sym (size_none v far) ]
 
   -- each size has a code
-  size_some : (v : ℕ) → is_free t ≡ true → v < 12 → 0 < length (code_of same_number t v)
+  pub size_some : (v : ℕ) → is_free t ≡ true → v < 12 → 0 < length (code_of same_number t v)
   size_some v free lt = omega (arith, ap length (size_index v), code_some t v free (omega (arith, are.len)))
 
 -- ---- tables B.12, luma, and B.13, chroma
@@ -80,7 +80,7 @@ dc_chroma_spells cut none v lt = code_spells cut none same_number dc_chroma v nu
 
 -- what stands for a size is its code
 pub dc_luma_once : {K : Type 0} (cut none : K) (v : ℕ) (t rest : List Bool) → (code_at cut none dc_luma).Stands v t rest → t ≡ dc_luma_code v ++ rest
-dc_luma_once cut none v t rest st = spelled_once cut none same_number dc_luma v t rest number_reflexive dc_luma_checked.single st
+dc_luma_once cut none v t rest st = once_of dc_luma_checked cut none v t rest number_reflexive st
 
 pub dc_chroma_once : {K : Type 0} (cut none : K) (v : ℕ) (t rest : List Bool) → (code_at cut none dc_chroma).Stands v t rest → t ≡ dc_chroma_code v ++ rest
-dc_chroma_once cut none v t rest st = spelled_once cut none same_number dc_chroma v t rest number_reflexive dc_chroma_checked.single st
+dc_chroma_once cut none v t rest st = once_of dc_chroma_checked cut none v t rest number_reflexive st
