@@ -82,13 +82,17 @@ bits_of-mod n v = same_bits (bits_of n (v % 2 ^ n)) (bits_of n v) (length-bits_o
 pub bits_of-low : (n a b : ℕ) → b < 2 ^ n → bits_of n (a * 2 ^ n + b) ≡ bits_of n b
 bits_of-low n a b h = sym (bits_of-mod n (a * 2 ^ n + b)) ∙ ap (bits_of n) (mod_low a n b h)
 
--- n zeros in front don't count
+-- n zeros in front don't count where one doesn't
+front : {A : Type 0} (f : List Bool → A) → ((bs : List Bool) → f (false ∷ bs) ≡ f bs) → (n : ℕ) (bs : List Bool) → n ≤ length bs → number (take n bs) ≡ 0 → f bs ≡ f (drop n bs)
+unfolding number
+front f one zero bs le e = refl
+front f one (suc n) [] le e = absurd (omega arith)
+front f one (suc n) (true ∷ bs) le e = absurd (omega (arith, pow_pos (length (take n bs))))
+front f one (suc n) (false ∷ bs) le e = let z : number (take n bs) ≡ 0 = omega arith in one bs ∙ front f one n bs (omega arith) z
+
 pub zero_front : (n : ℕ) (bs : List Bool) → n ≤ length bs → number (take n bs) ≡ 0 → all_zero bs ≡ all_zero (drop n bs)
-unfolding all_zero number
-zero_front zero bs le e = refl
-zero_front (suc n) [] le e = absurd (omega arith)
-zero_front (suc n) (true ∷ bs) le e = absurd (omega (arith, pow_pos (length (take n bs))))
-zero_front (suc n) (false ∷ bs) le e = let z : number (take n bs) ≡ 0 = omega arith in zero_front n bs (omega arith) z
+unfolding all_zero
+zero_front = front all_zero (λ bs. refl)
 
 zero_number : (bs : List Bool) → all_zero bs ≡ true → number bs ≡ 0
 unfolding all_zero number
@@ -124,11 +128,8 @@ zero_end (b ∷ bs) le = absurd (omega arith)
 
 -- nor do they change where the first 1 stands
 pub one_front : (n : ℕ) (bs : List Bool) → n ≤ length bs → number (take n bs) ≡ 0 → first_one bs ≡ first_one (drop n bs)
-unfolding first_one number
-one_front zero bs le e = refl
-one_front (suc n) [] le e = absurd (omega arith)
-one_front (suc n) (true ∷ bs) le e = absurd (omega (arith, pow_pos (length (take n bs))))
-one_front (suc n) (false ∷ bs) le e = let z : number (take n bs) ≡ 0 = omega arith in one_front n bs (omega arith) z
+unfolding first_one
+one_front = front first_one (λ bs. refl)
 
 pub one_next : (bs : List Bool) → 0 < length bs → number (take 1 bs) ≡ 0 → first_one bs ≡ first_one (drop 1 bs)
 unfolding first_one number

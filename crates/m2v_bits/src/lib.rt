@@ -11,7 +11,7 @@ mod start;
 mod writer;
 
 pub use elements::{check, flag, number};
-pub use output::{BitCount, BitOutput};
+pub use output::{BitCount, BitOutput, flag_bit};
 pub use pairs::before_pair;
 pub use reader::BitReader;
 pub use start::next_start_code;

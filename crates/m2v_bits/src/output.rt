@@ -1,4 +1,4 @@
-ghost use Rattle.std.specs.Prelude.{◌≡◌, ℕ, ◌+◌, ◌-◌, ◌^◌, ◌<◌, ◌≤◌, ◌++◌, List, Bool, length};
+ghost use Rattle.std.specs.Prelude.{◌≡◌, ℕ, ◌+◌, ◌-◌, ◌^◌, ◌<◌, ◌≤◌, ◌++◌, List, [], ◌∷◌, Bool, length};
 ghost use Rattle.m2v_bits.specs.Bits.{bits_of};
 ghost use Rattle.m2v_bits.specs.Outputs.{Gains};
 
@@ -19,6 +19,16 @@ pub trait BitOutput {
         requires fits { value < 2 ^ n }
         requires room { n ≤ space self.old }
         ensures { Gains took space self.old (bits_of n value) self.new };
+}
+
+/// The bit of a flag.
+#[inline(always)]
+#[tactic(auto, unfolding(crate::specs::Bits::bits_of))]
+pub fn flag_bit(flag: bool) -> u32
+    ensures below { result < 2 }
+    ensures bits { bits_of 1 result ≡ flag ∷ [] }
+{
+    if flag { 1 } else { 0 }
 }
 
 impl BitOutput for BitWriter {
