@@ -13,25 +13,24 @@ pub of_none : (f residual : ℕ) → difference f (pos 0) residual ≡ pos 0
 unfolding difference
 of_none f residual = elim (cases_Bool (nat_eq f 1)) [ inl e ↦ rw e refl | inr e ↦ rw e refl ]
 
-pub of_positive : (f n residual : ℕ) → residual < f → difference f (pos (suc n)) residual ≡ pos (suc (n * f + residual))
-unfolding difference with_sign
-of_positive f n residual below =
+of_some : (f n residual : ℕ) (code : ℤ) → residual < f → unsigned_abs code ≡ suc n → code ≡ with_sign code (suc n) → difference f code residual ≡ with_sign code (suc (n * f + residual))
+unfolding difference
+of_some f n residual code below size own =
     let some : nat_eq (suc n) 0 ≡ false = ne_eqb (suc n) 0 (λ e. omega arith) in
     let less : suc n - 1 ≡ n = omega arith in
+    let sum : n * f + residual + 1 ≡ suc (n * f + residual) = omega arith in
     elim (cases_Bool (nat_eq f 1)) [
-      | inl e ↦ let one : f ≡ 1 = eqb-true f 1 e in let none : residual ≡ 0 = omega arith in rw (e, one, none) (omega (arith, ints))
-      | inr e ↦ rw (e, some, less) (omega (arith, ints))
+      | inl e ↦ let one : f ≡ 1 = eqb-true f 1 e in let none : residual ≡ 0 = omega arith in let all : suc n ≡ suc (n * f + residual) = rw (one, none) (omega arith) in rw e (own ∙ ap (with_sign code) all)
+      | inr e ↦ rw (e, size, some, less, sum) refl
     ]
 
+pub of_positive : (f n residual : ℕ) → residual < f → difference f (pos (suc n)) residual ≡ pos (suc (n * f + residual))
+unfolding with_sign
+of_positive f n residual below = of_some f n residual (pos (suc n)) below refl refl
+
 pub of_negative : (f n residual : ℕ) → residual < f → difference f (negsuc n) residual ≡ negsuc (n * f + residual)
-unfolding difference with_sign
-of_negative f n residual below =
-    let some : nat_eq (suc n) 0 ≡ false = ne_eqb (suc n) 0 (λ e. omega arith) in
-    let less : suc n - 1 ≡ n = omega arith in
-    elim (cases_Bool (nat_eq f 1)) [
-      | inl e ↦ let one : f ≡ 1 = eqb-true f 1 e in let none : residual ≡ 0 = omega arith in rw (e, one, none) (omega (arith, ints))
-      | inr e ↦ rw (e, some, less) (omega (arith, ints))
-    ]
+unfolding with_sign
+of_negative f n residual below = of_some f n residual (negsuc n) below refl refl
 
 -- ---- splitting
 
