@@ -4,11 +4,12 @@ use Rattle.std.specs.Prelude.{IfOk}
 use Rattle.std.specs.List.{list_all}
 use Rattle.m2v_bits.specs.Bits.{number, ahead}
 use Rattle.m2v_bits.specs.Syntax.{Gives}
+use Rattle.m2v_bits.proofs.SyntaxLaws.{Strict}
 use Rattle.m2v_vlc.specs.declared.values.CodeFault.{CodeFault}
 use Rattle.m2v_vlc.specs.declared.values.CodeFault.TheVariants.{Truncated, NoCode}
 use Rattle.m2v_vlc.specs.Codes.{Row, code_at, code_of, is_free, is_within, is_single}
 use Rattle.m2v_vlc.specs.Lookups.{rows_of, IsTable, Points, code_in}
-use Rattle.m2v_vlc.proofs.CodeLaws.{Reflexive, within_more, spelled_once}
+use Rattle.m2v_vlc.proofs.CodeLaws.{Reflexive, within_more, spelled_once, code_strict}
 use Rattle.m2v_vlc.proofs.LookupLaws.{holds, points_flat}
 use Rattle.m2v_vlc.proofs.ValueLaws.{in_range}
 
@@ -28,6 +29,10 @@ module _ {V : Type 0} {same : V → V → Bool} {d : V} {w : ℕ} {entries : Lis
 
   pub points_of : (bs : List Bool) (p i : ℕ) → p ≡ number (ahead w bs) → p < length lookup → i ≡ get_or lookup p 0 → Points t i bs
   points_of bs p i at lt found = points_flat d w t lookup bs p i table_of c.width.0 c.width.1 c.looked at lt found
+
+  -- a leaf of syntax
+  pub strict_of : {K : Type 0} (cut none : K) → Strict length (code_at cut none t)
+  strict_of cut none = code_strict cut none t c.free
 
   -- no second spelling: what stands for a value is its code
   pub once_of : {K : Type 0} (cut none : K) (v : V) (text rest : List Bool) → Reflexive same → (code_at cut none t).Stands v text rest → text ≡ code_of same t v ++ rest

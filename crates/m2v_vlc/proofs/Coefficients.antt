@@ -3,7 +3,6 @@ use Rattle.std.proofs.Common.{◌≡◌, ℕ, ◌-◌, ◌/◌, ◌<◌, ◌≤�
 use Rattle.std.specs.List.{list_all}
 use Rattle.m2v_bits.specs.Bits.{bits_of, number, ahead}
 use Rattle.m2v_bits.specs.Syntax.{Spells}
-use Rattle.m2v_bits.proofs.SyntaxLaws.{Strict}
 use Rattle.m2v_vlc.specs.declared.values.Coefficient.{Coefficient}
 use Rattle.m2v_vlc.specs.declared.values.Coefficient.TheVariants.{End, Escape}
 use Rattle.m2v_vlc.specs.declared.zero_rows.TheConstants.{ZERO_ROWS, ZERO_BY_9, ZERO_BY_13, ZERO_BY_17}
@@ -13,7 +12,7 @@ use Rattle.m2v_vlc.specs.Values.{same_signed}
 use Rattle.m2v_vlc.specs.Coefficients.{signed, same_coefficient, pairs_zero, pairs_one, coefficient_zero, coefficient_zero_code, coefficient_one, coefficient_one_code}
 use Rattle.m2v_vlc.specs.Places.{start, coefficient_place}
 use Rattle.m2v_vlc.specs.Lookups.{Points, code_in}
-use Rattle.m2v_vlc.proofs.CodeLaws.{code_strict, code_of_row, length_within, code_spells}
+use Rattle.m2v_vlc.proofs.CodeLaws.{code_of_row, length_within, code_spells}
 use Rattle.m2v_vlc.proofs.LookupLaws.{holds, points}
 use Rattle.m2v_vlc.proofs.ValueLaws.{below}
 use Rattle.m2v_vlc.proofs.Places.{coefficient_sound, coefficient_reflexive, is_small, spot, ArePlaced, place_of}
@@ -64,12 +63,6 @@ zero_index v = place_of pairs_zero (row End 0x2 2) (row Escape 0x1 6) zero_place
 pub one_index : (v : Coefficient) → code_in coefficient_one (coefficient_place v) ≡ coefficient_one_code v
 unfolding coefficient_one
 one_index v = place_of pairs_one (row End 0x6 4) (row Escape 0x1 6) one_placed one_pointed.checked.single v
-
-pub coefficient_zero_strict : {K : Type 0} (cut none : K) → Strict length (code_at cut none coefficient_zero)
-coefficient_zero_strict cut none = code_strict cut none coefficient_zero zero_pointed.checked.free
-
-pub coefficient_one_strict : {K : Type 0} (cut none : K) → Strict length (code_at cut none coefficient_one)
-coefficient_one_strict cut none = code_strict cut none coefficient_one one_pointed.checked.free
 
 pub coefficient_zero_length : (v : Coefficient) → length (coefficient_zero_code v) ≤ 17
 coefficient_zero_length v = length_within same_coefficient 17 coefficient_zero v zero_pointed.checked.within

@@ -4,7 +4,6 @@ use Rattle.std.specs.Prelude.{◌&&◌}
 use Rattle.std.specs.List.{list_all}
 use Rattle.std.proofs.lemmas.Bool.{and_parts, ltb-true, leb-true}
 use Rattle.m2v_bits.specs.Syntax.{Spells}
-use Rattle.m2v_bits.proofs.SyntaxLaws.{Strict}
 use Rattle.m2v_vlc.specs.Codes.{code, code_of, code_at, apart_all, is_free, is_within, is_other, is_single}
 use Rattle.m2v_vlc.specs.Values.{same_increment, IsIncrement}
 use Rattle.m2v_vlc.specs.Tables.{increment, increment_code}
@@ -12,7 +11,7 @@ use Rattle.m2v_vlc.specs.Lookups.{code_in}
 use Rattle.m2v_vlc.specs.declared.values.Increment.{Increment}
 use Rattle.m2v_vlc.specs.declared.values.Increment.TheVariants.{Step, Escape}
 use Rattle.m2v_vlc.specs.declared.increment_rows.TheConstants.{INCREMENT_ROWS, INCREMENT_AT}
-use Rattle.m2v_vlc.proofs.CodeLaws.{code_strict, code_of_none, length_within, code_spells}
+use Rattle.m2v_vlc.proofs.CodeLaws.{code_of_none, length_within, code_spells}
 use Rattle.m2v_vlc.proofs.LookupLaws.{holds, code_some}
 use Rattle.m2v_vlc.proofs.ValueLaws.{increment_sound, all_in, below, agree}
 use Rattle.m2v_vlc.proofs.Checks.{Checked}
@@ -62,9 +61,6 @@ pub past_index : (n : ℕ) → (IsIncrement (Step n) → ⊥) → code_in increm
 past_index n far = none_index ∙ sym (no_step n far)
 
 -- ---- the laws
-
-pub increment_strict : {K : Type 0} (cut none : K) → Strict length (code_at cut none increment)
-increment_strict cut none = code_strict cut none increment increment_checked.free
 
 pub increment_length : (v : Increment) → length (increment_code v) ≤ 11
 increment_length v = length_within same_increment 11 increment v increment_checked.within

@@ -3,14 +3,13 @@ use Rattle.std.proofs.Common.{sym, ◌≡◌, ℕ, ◌*◌, ◌/◌, ◌%◌, �
 use Rattle.std.specs.Prelude.{nat_eq}
 use Rattle.m2v_bits.specs.Bits.{bits_of}
 use Rattle.m2v_bits.specs.Syntax.{Spells}
-use Rattle.m2v_bits.proofs.SyntaxLaws.{Strict}
 use Rattle.m2v_vlc.specs.Codes.{Row, code_of, code_at, apart_all, is_free, is_within, is_other, is_single}
 use Rattle.m2v_vlc.specs.Values.{same_type, kind, flags, has_type_i, has_type_p, has_type_b}
 use Rattle.m2v_vlc.specs.Tables.{type_i, type_i_code, type_p, type_p_code, type_b, type_b_code}
 use Rattle.m2v_vlc.specs.Lookups.{code_in}
 use Rattle.m2v_vlc.specs.declared.values.MbType.{MbType}
 use Rattle.m2v_vlc.specs.declared.kind_rows.TheConstants.{TYPE_I_ROWS, TYPE_I_AT, TYPE_I_ROW, TYPE_P_ROWS, TYPE_P_AT, TYPE_P_ROW, TYPE_B_ROWS, TYPE_B_AT, TYPE_B_ROW}
-use Rattle.m2v_vlc.proofs.CodeLaws.{code_strict, length_within, code_spells}
+use Rattle.m2v_vlc.proofs.CodeLaws.{length_within, code_spells}
 use Rattle.m2v_vlc.proofs.LookupLaws.{holds}
 use Rattle.m2v_vlc.proofs.ValueLaws.{type_sound, below, agree}
 use Rattle.m2v_vlc.proofs.Checks.{Checked}
@@ -92,24 +91,6 @@ unfolding below type_b code_of from_flags bits_of
 type_b_are = record { codes = refl; some = refl }
 
 -- ---- the laws
-
-pub type_i_free : is_free type_i ≡ true
-type_i_free = type_i_checked.free
-
-pub type_p_free : is_free type_p ≡ true
-type_p_free = type_p_checked.free
-
-pub type_b_free : is_free type_b ≡ true
-type_b_free = type_b_checked.free
-
-pub type_i_strict : {K : Type 0} (cut none : K) → Strict length (code_at cut none type_i)
-type_i_strict cut none = code_strict cut none type_i type_i_checked.free
-
-pub type_p_strict : {K : Type 0} (cut none : K) → Strict length (code_at cut none type_p)
-type_p_strict cut none = code_strict cut none type_p type_p_checked.free
-
-pub type_b_strict : {K : Type 0} (cut none : K) → Strict length (code_at cut none type_b)
-type_b_strict cut none = code_strict cut none type_b type_b_checked.free
 
 pub type_i_length : (v : MbType) → length (type_i_code v) ≤ 2
 type_i_length v = length_within same_type 2 type_i v type_i_checked.within

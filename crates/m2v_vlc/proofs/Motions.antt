@@ -5,13 +5,12 @@ use Rattle.std.specs.List.{list_all}
 use Rattle.std.proofs.lemmas.Int.{ints}
 use Rattle.std.proofs.lemmas.Bool.{ltb-true, leb-true}
 use Rattle.m2v_bits.specs.Syntax.{Spells}
-use Rattle.m2v_bits.proofs.SyntaxLaws.{Strict}
 use Rattle.m2v_vlc.specs.Codes.{Row, code, code_of, code_at, apart_all, is_free, is_within, is_other, is_single}
 use Rattle.m2v_vlc.specs.Values.{same_signed, minus}
 use Rattle.m2v_vlc.specs.Tables.{motion, motion_code, dmv, dmv_code}
 use Rattle.m2v_vlc.specs.Lookups.{code_in}
 use Rattle.m2v_vlc.specs.declared.motion_rows.TheConstants.{MOTION_ROWS, MOTION_AT, DMV_ROWS, DMV_AT}
-use Rattle.m2v_vlc.proofs.CodeLaws.{code_strict, code_of_none, length_within, code_spells}
+use Rattle.m2v_vlc.proofs.CodeLaws.{code_of_none, length_within, code_spells}
 use Rattle.m2v_vlc.proofs.LookupLaws.{holds, code_some}
 use Rattle.m2v_vlc.proofs.ValueLaws.{signed_sound, all_in, below, agree}
 use Rattle.m2v_vlc.proofs.Checks.{Checked}
@@ -84,12 +83,6 @@ unfolding below dmv code_of same_signed
 dmv_are = record { known = refl; len = refl; past = refl; up = refl; down = refl }
 
 -- ---- the laws
-
-pub motion_strict : {K : Type 0} (cut none : K) → Strict length (code_at cut none motion)
-motion_strict cut none = code_strict cut none motion motion_checked.free
-
-pub dmv_strict : {K : Type 0} (cut none : K) → Strict length (code_at cut none dmv)
-dmv_strict cut none = code_strict cut none dmv dmv_checked.free
 
 pub motion_length : (v : ℤ) → length (motion_code v) ≤ 11
 motion_length v = length_within same_signed 11 motion v motion_checked.within

@@ -5,13 +5,12 @@ use Rattle.std.specs.List.{list_all}
 use Rattle.std.proofs.lemmas.Bool.{cases_lt, ltb-true, and_parts}
 use Rattle.std.proofs.lemmas.List.{get_or_past}
 use Rattle.m2v_bits.specs.Syntax.{Spells}
-use Rattle.m2v_bits.proofs.SyntaxLaws.{Strict}
 use Rattle.m2v_vlc.specs.Codes.{code, code_of, code_at, apart_all, is_free, is_within, is_other, is_single}
 use Rattle.m2v_vlc.specs.Values.{same_number}
 use Rattle.m2v_vlc.specs.Tables.{block_pattern, pattern_code}
 use Rattle.m2v_vlc.specs.Lookups.{code_in}
 use Rattle.m2v_vlc.specs.declared.pattern_rows.TheConstants.{PATTERN_ROWS, PATTERN_AT}
-use Rattle.m2v_vlc.proofs.CodeLaws.{code_strict, code_of_none, length_within, code_spells}
+use Rattle.m2v_vlc.proofs.CodeLaws.{code_of_none, length_within, code_spells}
 use Rattle.m2v_vlc.proofs.LookupLaws.{holds, code_some}
 use Rattle.m2v_vlc.proofs.ValueLaws.{number_sound, all_in, below, agree}
 use Rattle.m2v_vlc.proofs.Checks.{Checked}
@@ -54,9 +53,6 @@ pattern_index zero some = absurd (some refl)
 pattern_index (suc i) some =
     let same : suc i - 1 ≡ i = omega arith in
     ap (code_in block_pattern) same ∙ elim (cases_lt i 63) [ inl lt ↦ agree (code_in block_pattern) (λ i. pattern_code (suc i)) 63 i pattern_codes lt | inr far ↦ past_index i far ∙ sym (pattern_none (suc i) (λ r. omega (arith, r.1))) ]
-
-pub pattern_strict : {K : Type 0} (cut none : K) → Strict length (code_at cut none block_pattern)
-pattern_strict cut none = code_strict cut none block_pattern pattern_checked.free
 
 pub pattern_length : (v : ℕ) → length (pattern_code v) ≤ 9
 pattern_length v = length_within same_number 9 block_pattern v pattern_checked.within

@@ -4,13 +4,12 @@ use Rattle.std.specs.List.{list_all}
 use Rattle.std.proofs.lemmas.Bool.{cases_lt, ltb-true, both_ways, le-ltb}
 use Rattle.std.proofs.lemmas.List.{get_or_past}
 use Rattle.m2v_bits.specs.Syntax.{Spells}
-use Rattle.m2v_bits.proofs.SyntaxLaws.{Strict}
 use Rattle.m2v_vlc.specs.Codes.{Row, code, code_of, code_at, apart_all, is_free, is_within, is_other, is_single}
 use Rattle.m2v_vlc.specs.Values.{same_number}
 use Rattle.m2v_vlc.specs.Tables.{dc_luma, dc_luma_code, dc_chroma, dc_chroma_code}
 use Rattle.m2v_vlc.specs.Lookups.{code_in}
 use Rattle.m2v_vlc.specs.declared.size_rows.TheConstants.{LUMA_ROWS, LUMA_AT, CHROMA_ROWS, CHROMA_AT}
-use Rattle.m2v_vlc.proofs.CodeLaws.{code_strict, code_of_none, length_within, code_spells}
+use Rattle.m2v_vlc.proofs.CodeLaws.{code_of_none, length_within, code_spells}
 use Rattle.m2v_vlc.proofs.LookupLaws.{holds, code_some}
 use Rattle.m2v_vlc.proofs.ValueLaws.{number_sound, number_reflexive, all_in, below, agree}
 use Rattle.m2v_vlc.proofs.Checks.{Checked, once_of}
@@ -59,12 +58,6 @@ unfolding below dc_chroma code_of
 dc_chroma_are = record { known = refl; len = refl; codes = refl }
 
 -- ---- the laws
-
-pub dc_luma_strict : {K : Type 0} (cut none : K) → Strict length (code_at cut none dc_luma)
-dc_luma_strict cut none = code_strict cut none dc_luma dc_luma_checked.free
-
-pub dc_chroma_strict : {K : Type 0} (cut none : K) → Strict length (code_at cut none dc_chroma)
-dc_chroma_strict cut none = code_strict cut none dc_chroma dc_chroma_checked.free
 
 pub dc_luma_length : (v : ℕ) → length (dc_luma_code v) ≤ 9
 dc_luma_length v = length_within same_number 9 dc_luma v dc_luma_checked.within

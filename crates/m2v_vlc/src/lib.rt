@@ -11,11 +11,13 @@ mod kind_rows;
 mod laws;
 mod long;
 mod longest;
+mod lookup;
 mod motion;
 mod motion_rows;
 mod one_long;
 mod one_rows;
 mod one_short;
+mod pair_rows;
 mod pattern;
 mod pattern_rows;
 mod rows;
@@ -43,7 +45,7 @@ pub use motion::{
     bits_dmv, bits_motion, code_dmv, code_motion, read_dmv, read_motion, write_dmv, write_motion,
 };
 pub use pattern::{bits_pattern, code_pattern, read_pattern, write_pattern};
-pub use rows::Code;
+pub use rows::{Code, append_code};
 pub use short::{short_first, short_pair};
 pub use size::{
     bits_dc_chroma, bits_dc_luma, code_dc_chroma, code_dc_luma, read_dc_chroma, read_dc_luma,

@@ -1,11 +1,12 @@
 ghost use Rattle.std.specs.Prelude.{◌≡◌, ◌+◌, ◌^◌, ◌<◌, ◌≤◌, ◌++◌, cond, length, slice_index, OnErr};
 ghost use Rattle.std.specs.List.{list_any};
+ghost use Rattle.m2v_bits.specs.Outputs.{Gains};
 ghost use Rattle.m2v_bits.specs.Syntax.{Gives};
 ghost use Rattle.m2v_vlc.specs.Codes.{code_at, is_cut};
 ghost use Rattle.m2v_vlc.specs.Lookups.{rows_of, IsTable, Points, code_in, begins_by_number, spelled};
 
 use crate::values::CodeFault;
-use m2v_bits::{BitReader, BitWriter};
+use m2v_bits::{BitOutput, BitReader, BitWriter};
 
 /// A code as `BitWriter::put` takes it.
 #[derive(Clone, Copy)]
@@ -93,6 +94,18 @@ pub fn bits_of_code(code: Code) -> u32
     ensures { result ≡ length (spelled code) }
 {
     code.len as u32
+}
+
+/// Appends a code to whatever takes bits.
+#[inline(always)]
+#[tactic(auto, using(m2v_bits::proofs::Cursor::lengths))]
+pub fn append_code<O: BitOutput>(code: Code, out: &mut O)
+    requires width { code.len ≤ 17 }
+    requires fits { code.number < 2 ^ code.len }
+    requires room { length (spelled code) ≤ O.space out.old }
+    ensures { Gains O.took O.space out.old (spelled code) out.new }
+{
+    out.append(code.number, code.len);
 }
 
 /// Writes a code.

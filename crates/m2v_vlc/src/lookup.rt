@@ -1,0 +1,43 @@
+//! How look-ups are written down.
+
+/// A look-up by its values in order: before values in brackets stands how many places each of them fills.
+macro_rules! lookup {
+    ($(
+        $(1 each [$($once:expr),*])?
+        $(2 each [$($twice:expr),*])?
+        $(4 each [$($four:expr),*])?
+        $(8 each [$($eight:expr),*])?
+        $(16 each [$($sixteen:expr),*])?
+        $(32 each [$($many:expr),*])?
+        $(64 each [$($most:expr),*])?,
+    )*) => {
+        [$(
+            $($($once,)*)?
+            $($($twice, $twice,)*)?
+            $($($four, $four, $four, $four,)*)?
+            $($($eight, $eight, $eight, $eight, $eight, $eight, $eight, $eight,)*)?
+            $($(
+                $sixteen, $sixteen, $sixteen, $sixteen, $sixteen, $sixteen, $sixteen, $sixteen,
+                $sixteen, $sixteen, $sixteen, $sixteen, $sixteen, $sixteen, $sixteen, $sixteen,
+            )*)?
+            $($(
+                $many, $many, $many, $many, $many, $many, $many, $many,
+                $many, $many, $many, $many, $many, $many, $many, $many,
+                $many, $many, $many, $many, $many, $many, $many, $many,
+                $many, $many, $many, $many, $many, $many, $many, $many,
+            )*)?
+            $($(
+                $most, $most, $most, $most, $most, $most, $most, $most,
+                $most, $most, $most, $most, $most, $most, $most, $most,
+                $most, $most, $most, $most, $most, $most, $most, $most,
+                $most, $most, $most, $most, $most, $most, $most, $most,
+                $most, $most, $most, $most, $most, $most, $most, $most,
+                $most, $most, $most, $most, $most, $most, $most, $most,
+                $most, $most, $most, $most, $most, $most, $most, $most,
+                $most, $most, $most, $most, $most, $most, $most, $most,
+            )*)?
+        )*]
+    };
+}
+
+pub(crate) use lookup;
