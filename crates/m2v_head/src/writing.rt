@@ -1,20 +1,9 @@
-ghost use Rattle.std.specs.Prelude.{◌≡◌, ◌+◌, ◌≤◌, ◌<◌, ◌++◌, length};
-ghost use Rattle.m2v_bits.specs.Bits.{bits_of};
+ghost use Rattle.std.specs.Prelude.{◌≡◌, ◌+◌, ◌≤◌, ◌++◌, length};
 ghost use Rattle.m2v_head.specs.Texts.{flag as flag_text, loaded_text, matrix_text};
 ghost use Rattle.m2v_head.specs.Fits.{IsLoaded};
 
-use m2v_bits::BitWriter;
+use m2v_bits::{BitWriter, flag_bit};
 use m2v_quant::scan;
-
-/// The bit of a flag.
-#[inline(always)]
-#[tactic(auto, unfolding(m2v_bits::specs::Bits::bits_of))]
-fn bit(b: bool) -> u32
-    ensures below { result < 2 }
-    ensures bits { bits_of 1 result ≡ flag_text b }
-{
-    if b { 1 } else { 0 }
-}
 
 /// Appends a flag.
 #[inline(always)]
@@ -23,7 +12,7 @@ pub fn put_flag(out: &mut BitWriter, b: bool)
     ensures written { out.new.written ≡ out.old.written ++ flag_text b }
     ensures room { out.new.room + 1 ≡ out.old.room }
 {
-    out.put(bit(b), 1);
+    out.put(flag_bit(b), 1);
 }
 
 /// Appends the flag of a matrix, and the matrix where there is one.
