@@ -10,8 +10,9 @@ use Rattle.m2v_vlc.specs.declared.values.Coefficient.{Coefficient}
 use Rattle.m2v_vlc.specs.declared.values.Coefficient.TheVariants.{End, Escape, Pair}
 use Rattle.m2v_vlc.specs.Codes.{Row, code_at}
 use Rattle.m2v_vlc.specs.Coefficients.{coefficient_zero, coefficient_one, first_zero}
-use Rattle.m2v_vlc.proofs.Sizes.{dc_luma_strict, dc_chroma_strict}
-use Rattle.m2v_vlc.proofs.Coefficients.{coefficient_zero_strict, coefficient_one_strict}
+use Rattle.m2v_vlc.proofs.Checks.{strict_of}
+use Rattle.m2v_vlc.proofs.Sizes.{dc_luma_checked, dc_chroma_checked}
+use Rattle.m2v_vlc.proofs.Coefficients.{zero_pointed, one_pointed}
 use Rattle.m2v_vlc.proofs.Firsts.{first_zero_strict}
 use Rattle.m2v_quant.specs.declared.kind.BlockKind.{BlockKind}
 use Rattle.m2v_block.specs.declared.fault.BlockFault.{BlockFault}
@@ -28,7 +29,7 @@ coded_strict table s = record { lawful = renamed_lawful of_code s.lawful; takes 
 
 pub size_strict : (luma : Bool) → Strict length (size_at luma)
 unfolding size_at
-size_strict luma = choose_strict luma (coded_strict _ (dc_luma_strict codes.Truncated codes.NoCode)) (coded_strict _ (dc_chroma_strict codes.Truncated codes.NoCode))
+size_strict luma = choose_strict luma (coded_strict _ (strict_of dc_luma_checked codes.Truncated codes.NoCode)) (coded_strict _ (strict_of dc_chroma_checked codes.Truncated codes.NoCode))
 
 dc_strict : (luma : Bool) (precision : ℕ) (predictor : ℤ) → Strict length (dc_at luma precision predictor)
 unfolding dc_at
@@ -58,7 +59,7 @@ code_strict : (first one : Bool) → Strict length (code_from first one)
 unfolding code_from
 code_strict first one =
     choose_strict first (coded_strict _ (first_zero_strict codes.Truncated codes.NoCode))
-    (choose_strict one (coded_strict _ (coefficient_one_strict codes.Truncated codes.NoCode)) (coded_strict _ (coefficient_zero_strict codes.Truncated codes.NoCode)))
+    (choose_strict one (coded_strict _ (strict_of one_pointed.checked codes.Truncated codes.NoCode)) (coded_strict _ (strict_of zero_pointed.checked codes.Truncated codes.NoCode)))
 
 pair_strict : (one : Bool) (s : Scan) → Strict length (pair_at one s)
 unfolding pair_at

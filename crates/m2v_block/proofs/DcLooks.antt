@@ -80,22 +80,20 @@ level_passed precision predictor d le p l =
     let fits : SFits w32 (predictor +ℤ d) = sum_fits (predictor +ℤ d) (omega (arith, ints, most, p.0, p.1, l.0, l.1)) (omega (arith, ints, most, p.0, p.1, l.0, l.1)) in
     rw (to_z-of_z w32 predictor (level_fits predictor (dc_is_level precision predictor le p)), to_z-of_z w32 d (level_fits d l)) (to_z-of_z w32 (predictor +ℤ d) fits)
 
+-- a size that isn't 0 tells the half by its highest bit
+half_is : (s bits : ℕ) → (nat_eq (suc s) 0 ≡ false) × (nat_le (2 ^ (suc s - 1)) bits ≡ nat_le (2 ^ s) bits) × (2 ^ suc s ≡ 2 ^ s * 2)
+half_is s bits = let half : suc s - 1 ≡ s = omega arith in (ne_eqb (suc s) 0 (λ e. omega arith), rw half refl, pow-suc 2 s)
+
 pub difference_high : (size bits : ℕ) → bits < 2 ^ size → 2 ^ size ≤ 2 * bits → difference size bits ≡ pos bits
 unfolding difference
 difference_high zero bits fits high = absurd (omega (arith, fits, high))
 difference_high (suc s) bits fits high =
-    let some : nat_eq (suc s) 0 ≡ false = ne_eqb (suc s) 0 (λ e. omega arith) in
-    let half : suc s - 1 ≡ s = omega arith in
-    let double : 2 ^ suc s ≡ 2 ^ s * 2 = pow-suc 2 s in
-    let least : nat_le (2 ^ (suc s - 1)) bits ≡ true = rw half (le-leb (2 ^ s) bits (omega (arith, double, high))) in
-    rw (some, least) refl
+    let h = half_is s bits in
+    rw (h.0, h.1 ∙ le-leb (2 ^ s) bits (omega (arith, h.2, high))) refl
 
 pub difference_low : (size bits : ℕ) → bits < 2 ^ size → 2 * bits < 2 ^ size → difference size bits ≡ pos (bits + 1) -ℤ pos (2 ^ size)
 unfolding difference
 difference_low zero bits fits low = let none : bits ≡ 0 = omega (arith, fits) in rw none refl
 difference_low (suc s) bits fits low =
-    let some : nat_eq (suc s) 0 ≡ false = ne_eqb (suc s) 0 (λ e. omega arith) in
-    let half : suc s - 1 ≡ s = omega arith in
-    let double : 2 ^ suc s ≡ 2 ^ s * 2 = pow-suc 2 s in
-    let less : nat_le (2 ^ (suc s - 1)) bits ≡ false = rw half (lt-leb (2 ^ s) bits (omega (arith, double, low))) in
-    rw (some, less) refl
+    let h = half_is s bits in
+    rw (h.0, h.1 ∙ lt-leb (2 ^ s) bits (omega (arith, h.2, low))) refl

@@ -5,7 +5,7 @@ ghost use Rattle.m2v_vlc.specs.Lookups.{spelled};
 ghost use Rattle.m2v_block.specs.Dc.{dc_text, size_code, size_of, number_of};
 
 use m2v_bits::{BitOutput, BitWriter};
-use m2v_vlc::{Code, code_dc_chroma, code_dc_luma};
+use m2v_vlc::{Code, append_code, code_dc_chroma, code_dc_luma};
 
 /// The size of a DC difference of this magnitude: how many bits its number has.
 #[inline(always)]
@@ -34,17 +34,6 @@ fn code_of(luma: bool, size: u8) -> Code
     }
 }
 
-/// Appends the code of a size.
-#[inline(always)]
-#[tactic(auto, using(m2v_bits::proofs::Cursor::lengths))]
-fn put_size<O: BitOutput>(luma: bool, size: u8, out: &mut O)
-    requires { length (size_code luma size) ≤ O.space out.old }
-    ensures { Gains O.took O.space out.old (size_code luma size) out.new }
-{
-    let code = code_of(luma, size);
-    out.append(code.number, code.len);
-}
-
 /// The number of a difference of this size.
 #[inline(always)]
 fn number_of(size: u8, difference: i32) -> u32
@@ -71,7 +60,7 @@ pub fn put_dc<O: BitOutput>(difference: i32, luma: bool, out: &mut O)
     ensures { Gains O.took O.space out.old (dc_text luma difference) out.new }
 {
     let size = size(difference.unsigned_abs());
-    put_size(luma, size, out);
+    append_code(code_of(luma, size), out);
     out.append(number_of(size, difference), size);
 }
 

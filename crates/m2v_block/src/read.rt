@@ -61,14 +61,11 @@ fn code(input: &mut BitReader, first: bool, one: bool) -> Result<Coefficient, Bl
     ensures range { IfOk result (λ v. IsCoefficient v) }
 {
     if first {
-        let c = read_first_zero(input)?;
-        Ok(c)
+        Ok(read_first_zero(input)?)
     } else if one {
-        let c = read_coefficient_one(input)?;
-        Ok(c)
+        Ok(read_coefficient_one(input)?)
     } else {
-        let c = read_coefficient_zero(input)?;
-        Ok(c)
+        Ok(read_coefficient_zero(input)?)
     }
 }
 

@@ -22,11 +22,9 @@ fn size(input: &mut BitReader, luma: bool) -> Result<u8, BlockFault>
     ensures size { IfOk result (λ v. v < 12) }
 {
     if luma {
-        let size = read_dc_luma(input)?;
-        Ok(size)
+        Ok(read_dc_luma(input)?)
     } else {
-        let size = read_dc_chroma(input)?;
-        Ok(size)
+        Ok(read_dc_chroma(input)?)
     }
 }
 

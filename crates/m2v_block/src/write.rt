@@ -11,7 +11,9 @@ ghost use Rattle.m2v_block.specs.Marked.{AreMarked};
 use crate::dc::put_dc;
 use m2v_bits::{BitOutput, BitWriter};
 use m2v_quant::{BlockKind, Levels};
-use m2v_vlc::{Code, Coefficient, code_coefficient_one, code_coefficient_zero, code_first_zero};
+use m2v_vlc::{
+    Code, Coefficient, append_code, code_coefficient_one, code_coefficient_zero, code_first_zero,
+};
 use std::simd::prelude::*;
 
 /// The code by the table that holds there, of no bits where it has none.
@@ -38,8 +40,7 @@ fn put_code<O: BitOutput>(first: bool, one: bool, c: Coefficient, out: &mut O)
     requires { length (code_text first one c) ≤ O.space out.old }
     ensures { Gains O.took O.space out.old (code_text first one c) out.new }
 {
-    let code = code_of(first, one, c);
-    out.append(code.number, code.len);
+    append_code(code_of(first, one, c), out);
 }
 
 /// A run and a level.
