@@ -1,6 +1,9 @@
 -- What is read of a macroblock stands there, and what stands there is read: a macroblock has one reading.
 use Rattle.std.proofs.Common.{◌≡◌, ℕ, Bool, true, false, List, length, subst, ap, ◌∙◌, sym, ◌<◌, ℤ, arith, refl}
-use Rattle.m2v_bits.specs.Syntax.{renamed}
+use Rattle.std.specs.Prelude.{not, nat_eq}
+use Rattle.m2v_bits.specs.Syntax.{renamed, seq, rule, done}
+use Rattle.m2v_bits.specs.Leaves.{bits_at}
+use Rattle.m2v_bits.specs.Elements.{left_at}
 use Rattle.m2v_bits.proofs.SyntaxLaws.{Lawful, Strict, Takes, good, bad, good_is, done_lawful, here_lawful, rule_lawful, seq_lawful, seq_strict, seq_strict_later, choose_lawful, renamed_lawful, repeated_strict, onward, round_err, round_more, round_last}
 use Rattle.m2v_bits.proofs.LeafLaws.{bits_lawful}
 use Rattle.m2v_bits.proofs.ElementLaws.{flag_strict}
@@ -9,10 +12,11 @@ use Rattle.m2v_vlc.specs.declared.values.Increment.{Increment}
 use Rattle.m2v_vlc.specs.declared.values.Increment.TheVariants.{Step, Escape}
 use Rattle.m2v_vlc.specs.declared.values.MbType.{MbType}
 use Rattle.m2v_vlc.specs.Codes.{Row, code_at, begins}
-use Rattle.m2v_vlc.proofs.Increments.{increment_strict}
-use Rattle.m2v_vlc.proofs.MbTypes.{type_i_strict, type_p_strict, type_b_strict}
-use Rattle.m2v_vlc.proofs.Patterns.{pattern_strict}
-use Rattle.m2v_vlc.proofs.Motions.{motion_strict, dmv_strict}
+use Rattle.m2v_vlc.proofs.Checks.{strict_of}
+use Rattle.m2v_vlc.proofs.Increments.{increment_checked}
+use Rattle.m2v_vlc.proofs.MbTypes.{type_i_checked, type_p_checked, type_b_checked}
+use Rattle.m2v_vlc.proofs.Patterns.{pattern_checked}
+use Rattle.m2v_vlc.proofs.Motions.{motion_checked, dmv_checked}
 use Rattle.m2v_vector.specs.declared.predictors.Pmv.{Pmv}
 use Rattle.m2v_macro.specs.declared.fault.MacroFault.{MacroFault}
 use Rattle.m2v_macro.specs.declared.fault.MacroFault.TheVariants.{SliceOrder, MissingMacroblocks, SkipRule, QuantZero, PatternZero, BadMotionType, VectorRange, Marker}
@@ -22,7 +26,7 @@ use Rattle.m2v_macro.specs.declared.values.PictureContext.{PictureContext}
 use Rattle.m2v_macro.specs.declared.values.Shape.{Shape}
 use Rattle.m2v_macro.specs.Faults.{of_code, cut, flag_at, coded, look_at, ahead_at}
 use Rattle.m2v_macro.specs.Vectors.{component_at, dm_at, vertical_at, vector_at, selected_at, vectors_at, direction_at}
-use Rattle.m2v_macro.specs.Macros.{added, round_at, increment_from, before_at, allowed_at, step_at, kind_at, told_form_at, form_at, dct_at, told_quantiser_at, quantiser_at, told_marker_at, marker_at, zero_pattern, told_pattern_at, pattern_at, directions_at, macro_at}
+use Rattle.m2v_macro.specs.Macros.{added, round_at, increment_from, before_at, allowed_at, step_at, kind_at, is_form, told_form_at, form_at, dct_at, told_quantiser_at, quantiser_at, told_marker_at, marker_at, zero_pattern, told_pattern_at, pattern_at, directions_at, macro_at}
 
 -- ---- elements
 
@@ -64,7 +68,7 @@ added_lawful sum Escape = done_lawful length _
 
 pub round_strict : (sum : ℕ) → Strict length (round_at sum)
 unfolding round_at
-round_strict sum = seq_strict (coded_strict _ (increment_strict codes.Truncated codes.NoCode)) (λ code. added_lawful sum code)
+round_strict sum = seq_strict (coded_strict _ (strict_of increment_checked codes.Truncated codes.NoCode)) (λ code. added_lawful sum code)
 
 pub increment_from_strict : (sum : ℕ) → Strict length (increment_from sum)
 unfolding increment_from
@@ -90,16 +94,20 @@ step_strict c st =
 kind_lawful : (kind : ℕ) → Lawful length (kind_at kind)
 unfolding kind_at
 kind_lawful kind =
-    choose_lawful _ (coded_strict _ (type_i_strict codes.Truncated codes.NoCode)).lawful
-    (choose_lawful _ (coded_strict _ (type_p_strict codes.Truncated codes.NoCode)).lawful (coded_strict _ (type_b_strict codes.Truncated codes.NoCode)).lawful)
+    choose_lawful _ (coded_strict _ (strict_of type_i_checked codes.Truncated codes.NoCode)).lawful
+    (choose_lawful _ (coded_strict _ (strict_of type_p_checked codes.Truncated codes.NoCode)).lawful (coded_strict _ (strict_of type_b_checked codes.Truncated codes.NoCode)).lawful)
+
+-- a number of n bits that a rule is about
+ruled_lawful : (n : ℕ) (holds : ℕ → Bool) (fault : MacroFault) → Lawful length (seq left_at (λ start. seq (bits_at cut n) (λ value. seq (rule (holds value) fault start) (λ known. done value))))
+ruled_lawful n holds fault =
+    seq_lawful (here_lawful length length) (λ start.
+    seq_lawful (bits_lawful cut n) (λ value.
+    seq_lawful (rule_lawful length _ fault start) (λ known.
+    done_lawful length _)))
 
 told_form_lawful : (kind : ℕ) → Lawful length (told_form_at kind)
 unfolding told_form_at
-told_form_lawful kind =
-    seq_lawful (here_lawful length length) (λ start.
-    seq_lawful (bits_lawful cut 2) (λ form.
-    seq_lawful (rule_lawful length _ BadMotionType start) (λ known.
-    done_lawful length _)))
+told_form_lawful kind = ruled_lawful 2 (is_form kind) BadMotionType
 
 form_lawful : (c : PictureContext) (kind : MbType) → Lawful length (form_at c kind)
 unfolding form_at
@@ -111,11 +119,7 @@ dct_lawful c kind = choose_lawful _ flag_lawful (done_lawful length _)
 
 told_quantiser_lawful : Lawful length told_quantiser_at
 unfolding told_quantiser_at
-told_quantiser_lawful =
-    seq_lawful (here_lawful length length) (λ start.
-    seq_lawful (bits_lawful cut 5) (λ code.
-    seq_lawful (rule_lawful length _ QuantZero start) (λ some.
-    done_lawful length _)))
+told_quantiser_lawful = ruled_lawful 5 (λ code. not (nat_eq code 0)) QuantZero
 
 quantiser_lawful : (kind : MbType) → Lawful length (quantiser_at kind)
 unfolding quantiser_at
@@ -126,13 +130,13 @@ quantiser_lawful kind = choose_lawful kind.quant told_quantiser_lawful (done_law
 component_lawful : (f_code : ℕ) (predictor : ℤ) → Lawful length (component_at f_code predictor)
 unfolding component_at
 component_lawful f_code predictor =
-    seq_lawful (coded_strict _ (motion_strict codes.Truncated codes.NoCode)).lawful (λ code.
+    seq_lawful (coded_strict _ (strict_of motion_checked codes.Truncated codes.NoCode)).lawful (λ code.
     seq_lawful (choose_lawful _ (bits_lawful cut _) (done_lawful length _)) (λ residual.
     done_lawful length _))
 
 dm_lawful : (dual : Bool) → Lawful length (dm_at dual)
 unfolding dm_at
-dm_lawful dual = choose_lawful dual (coded_strict _ (dmv_strict codes.Truncated codes.NoCode)).lawful (done_lawful length _)
+dm_lawful dual = choose_lawful dual (coded_strict _ (strict_of dmv_checked codes.Truncated codes.NoCode)).lawful (done_lawful length _)
 
 vertical_lawful : (halved : Bool) (f_code : ℕ) (predictor : ℤ) → Lawful length (vertical_at halved f_code predictor)
 unfolding vertical_at
@@ -187,7 +191,7 @@ told_pattern_lawful =
     seq_lawful (here_lawful length length) (λ start.
     seq_lawful (ahead_lawful zero_pattern) (λ none.
     seq_lawful (rule_lawful length _ PatternZero start) (λ some.
-    (coded_strict _ (pattern_strict codes.Truncated codes.NoCode)).lawful)))
+    (coded_strict _ (strict_of pattern_checked codes.Truncated codes.NoCode)).lawful)))
 
 pattern_lawful : (kind : MbType) → Lawful length (pattern_at kind)
 unfolding pattern_at

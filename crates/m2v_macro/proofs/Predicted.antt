@@ -70,34 +70,28 @@ backward_after f_code m p old l = elim (cases_Bool (resets m)) [
 ]
 
 -- skipped macroblocks have no vectors
-skipped_forward : (f_code : List ℕ) (c : PictureContext) → Leaves f_code (skipped c) 0
-unfolding has_vectors
-skipped_forward f_code c = record {
+none_leaves : (f_code : List ℕ) (m : Motion) (direction : ℕ) → has_vectors m direction ≡ false → Leaves f_code m direction
+none_leaves f_code m direction none = record {
   first = λ e. absurd cc;
   first_half = λ e h. absurd cc;
   second = λ e t. absurd cc;
   second_half = λ e t h. absurd cc;
 }
 
-skipped_backward : (f_code : List ℕ) (c : PictureContext) → Leaves f_code (skipped c) 1
+skipped_none : (c : PictureContext) → (has_vectors (skipped c) 0 ≡ false) × (has_vectors (skipped c) 1 ≡ false)
 unfolding has_vectors
-skipped_backward f_code c = record {
-  first = λ e. absurd cc;
-  first_half = λ e h. absurd cc;
-  second = λ e t. absurd cc;
-  second_half = λ e t h. absurd cc;
-}
+skipped_none c = (refl, refl)
 
 pub forward_before : (f_code : List ℕ) (c : PictureContext) (st : SliceState) (increment : ℕ) → ArePredictors f_code st.pmv 0 → ArePredictors f_code (pmv_before c st increment) 0
 unfolding pmv_before
 forward_before f_code c st increment old = elim (cases_Bool (skips st increment)) [
-  | inl skip ↦ rw skip (forward_after f_code (skipped c) st.pmv old (skipped_forward f_code c))
+  | inl skip ↦ rw skip (forward_after f_code (skipped c) st.pmv old (none_leaves f_code (skipped c) 0 (skipped_none c).0))
   | inr next ↦ rw next old
 ]
 
 pub backward_before : (f_code : List ℕ) (c : PictureContext) (st : SliceState) (increment : ℕ) → ArePredictors f_code st.pmv 1 → ArePredictors f_code (pmv_before c st increment) 1
 unfolding pmv_before
 backward_before f_code c st increment old = elim (cases_Bool (skips st increment)) [
-  | inl skip ↦ rw skip (backward_after f_code (skipped c) st.pmv old (skipped_backward f_code c))
+  | inl skip ↦ rw skip (backward_after f_code (skipped c) st.pmv old (none_leaves f_code (skipped c) 1 (skipped_none c).1))
   | inr next ↦ rw next old
 ]

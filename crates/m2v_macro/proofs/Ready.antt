@@ -1,12 +1,13 @@
 -- A macroblock leaves a state that the next one can go by.
 use Rattle.std.proofs.Common.{◌≡◌, ℕ, zero, suc, ◌^◌, ◌≤◌, Bool, true, false, List, ℤ, pos, neg_ℤ, ◌≤ℤ◌, refl, sym, subst, inl, inr, arith}
-use Rattle.std.specs.Prelude.{nat_eq, ◌||◌}
+use Rattle.std.specs.Prelude.{nat_eq, ◌||◌, slice_index, slice_index_or}
 use Rattle.std.proofs.lemmas.Int.{ints}
 use Rattle.std.proofs.lemmas.Bool.{cases_Bool, and_parts, eqb-true}
 use Rattle.m2v_vlc.specs.declared.values.MbType.{MbType}
 use Rattle.m2v_vlc.specs.Values.{has_type_i, has_type_p}
+use Rattle.m2v_vector.specs.declared.predictors.Motion.{Motion}
 use Rattle.m2v_vector.specs.Vectors.{scale, IsVector}
-use Rattle.m2v_vector.specs.Predictors.{has_vectors, AreSmall}
+use Rattle.m2v_vector.specs.Predictors.{pair_of, has_vectors, AreSmall}
 use Rattle.m2v_vector.proofs.Ranges.{powers, Small, zeros_small, two_small, all_small}
 use Rattle.m2v_macro.specs.declared.values.MacroSyntax.{MacroSyntax}
 use Rattle.m2v_macro.specs.declared.values.SliceState.{SliceState}
@@ -17,7 +18,7 @@ use Rattle.m2v_macro.specs.declared.values.Direction.{Direction}
 use Rattle.m2v_macro.specs.States.{is_field, motion, pmv_before, after}
 use Rattle.m2v_macro.specs.Vectors.{shape_of, no_vector}
 use Rattle.m2v_macro.specs.Macros.{is_concealed, f_codes_of}
-use Rattle.m2v_macro.specs.Conditions.{IsContext, IsReady, AreScales, IsSelected, IsDirection, IsMacro, has_type, is_used, forward_of, backward_of}
+use Rattle.m2v_macro.specs.Conditions.{IsContext, IsReady, AreScales, IsPair, IsHalf, IsSelected, IsDirection, IsMacro, has_type, is_used, forward_of, backward_of}
 use Rattle.m2v_macro.proofs.Types.{of_i, of_p}
 use Rattle.m2v_macro.proofs.Predicted.{Leaves, forward_after, backward_after, forward_before, backward_before}
 
@@ -97,23 +98,25 @@ vectors_small c st m ctx h =
 
 -- ---- the state behind
 
+direction_leaves : (f_code : List ℕ) (m : Motion) (direction : ℕ) (d : Direction) → IsDirection (has_vectors m direction) (shape_of m.field_picture m.form) f_code d
+    → d.first.vector ≡ pair_of m.vectors 0 direction → d.second.vector ≡ pair_of m.vectors 1 direction → Leaves f_code m direction
+unfolding shape_of
+direction_leaves f_code m direction d h first second =
+    let half : List ℤ → Type 0 = λ (v : List ℤ). IsHalf (scale (slice_index f_code 1)) (slice_index_or v 1 (pos 0)) in
+    record {
+      first = λ told. subst (λ (v : List ℤ). IsPair f_code v) first (h.first told).vector;
+      first_half = λ told halved. subst half first ((h.first told).half halved);
+      second = λ told two. subst (λ (v : List ℤ). IsPair f_code v) second (h.second told two).vector;
+      second_half = λ told two halved. subst half second ((h.second told two).half halved);
+    }
+
 forward_leaves : (c : PictureContext) (st : SliceState) (m : MacroSyntax) → IsMacro c st m → Leaves (f_codes_of c 0) (motion c m) 0
-unfolding has_vectors shape_of
-forward_leaves c st m h = record {
-  first = λ told. (h.forward.first told).vector;
-  first_half = λ told halved. (h.forward.first told).half halved;
-  second = λ told two. (h.forward.second told two).vector;
-  second_half = λ told two halved. (h.forward.second told two).half halved;
-}
+unfolding has_vectors
+forward_leaves c st m h = direction_leaves (f_codes_of c 0) (motion c m) 0 (forward_of m) h.forward refl refl
 
 backward_leaves : (c : PictureContext) (st : SliceState) (m : MacroSyntax) → IsMacro c st m → Leaves (f_codes_of c 1) (motion c m) 1
-unfolding has_vectors shape_of
-backward_leaves c st m h = record {
-  first = λ told. (h.backward.first told).vector;
-  first_half = λ told halved. (h.backward.first told).half halved;
-  second = λ told two. (h.backward.second told two).vector;
-  second_half = λ told two halved. (h.backward.second told two).half halved;
-}
+unfolding has_vectors
+backward_leaves c st m h = direction_leaves (f_codes_of c 1) (motion c m) 1 (backward_of m) h.backward refl refl
 
 pub ready_after : (c : PictureContext) (st : SliceState) (m : MacroSyntax) → IsReady c st → IsMacro c st m → IsReady c (after c st m)
 unfolding after

@@ -9,7 +9,7 @@ use Rattle.m2v_vlc.specs.Codes.{code_at}
 use Rattle.m2v_vlc.specs.Tables.{type_i, type_p, type_b, type_i_code, type_p_code, type_b_code}
 use Rattle.m2v_vlc.specs.Values.{has_type_i, has_type_p, has_type_b}
 use Rattle.m2v_vlc.proofs.ValueLaws.{in_range}
-use Rattle.m2v_vlc.proofs.MbTypes.{type_i_free, type_p_free, type_b_free, type_i_some, type_p_some, type_b_some}
+use Rattle.m2v_vlc.proofs.MbTypes.{type_i_checked, type_p_checked, type_b_checked, type_i_some, type_p_some, type_b_some}
 use Rattle.m2v_macro.specs.Conditions.{has_type}
 
 all_i : list_all (λ r. has_type_i r.value) type_i ≡ true
@@ -25,13 +25,13 @@ unfolding type_b
 all_b = refl
 
 pub read_i : (v : MbType) (t rest : List Bool) → (code_at Truncated NoCode type_i).read t ≡ Ok (v, rest) → has_type_i v ≡ true
-read_i v t rest e = in_range {K = CodeFault} (λ v. has_type_i v ≡ true) has_type_i Truncated NoCode type_i t rest (Ok v) type_i_free all_i (λ v h. h) e
+read_i v t rest e = in_range {K = CodeFault} (λ v. has_type_i v ≡ true) has_type_i Truncated NoCode type_i t rest (Ok v) type_i_checked.free all_i (λ v h. h) e
 
 pub read_p : (v : MbType) (t rest : List Bool) → (code_at Truncated NoCode type_p).read t ≡ Ok (v, rest) → has_type_p v ≡ true
-read_p v t rest e = in_range {K = CodeFault} (λ v. has_type_p v ≡ true) has_type_p Truncated NoCode type_p t rest (Ok v) type_p_free all_p (λ v h. h) e
+read_p v t rest e = in_range {K = CodeFault} (λ v. has_type_p v ≡ true) has_type_p Truncated NoCode type_p t rest (Ok v) type_p_checked.free all_p (λ v h. h) e
 
 pub read_b : (v : MbType) (t rest : List Bool) → (code_at Truncated NoCode type_b).read t ≡ Ok (v, rest) → has_type_b v ≡ true
-read_b v t rest e = in_range {K = CodeFault} (λ v. has_type_b v ≡ true) has_type_b Truncated NoCode type_b t rest (Ok v) type_b_free all_b (λ v h. h) e
+read_b v t rest e = in_range {K = CodeFault} (λ v. has_type_b v ≡ true) has_type_b Truncated NoCode type_b t rest (Ok v) type_b_checked.free all_b (λ v h. h) e
 
 pub in_i : (kind : ℕ) (v : MbType) → kind ≡ 1 → has_type_i v ≡ true → has_type kind v ≡ true
 unfolding has_type

@@ -56,6 +56,12 @@ pub record IsReady (c : PictureContext) (st : SliceState) : Type 0 where
 abbrev pub IsAddress : ℤ → Type 0
 IsAddress a = (neg_ℤ (pos 1) ≤ℤ a) × (a ≤ℤ pos (2 ^ 16))
 
+-- a slice of the picture that is begun, or is to begin past so many macroblocks: what an increment is read by
+pub record IsBegun (c : PictureContext) (st : SliceState) : Type 0 where
+  pub context : IsContext c
+  pub address : IsAddress st.address
+  pub next : st.next ≤ 2 ^ 16
+
 -- ---- macroblocks
 
 -- a type that tables B.2, B.3 and B.4 have, by the picture's type

@@ -1,6 +1,5 @@
 ghost use Rattle.std.specs.Prelude.{◌≡◌, ◌≤◌, ◌<◌, true, length};
 ghost use Rattle.m2v_bits.specs.Outputs.{Gains};
-ghost use Rattle.m2v_vlc.specs.Tables.{motion_code};
 ghost use Rattle.m2v_vector.specs.Vectors.{scale, IsVector, IsDifference};
 ghost use Rattle.m2v_macro.specs.Texts.{residual_text, difference_text, component_text, dm_text};
 ghost use Rattle.m2v_macro.specs.Conditions.{IsDm};
@@ -8,18 +7,7 @@ ghost use Rattle.m2v_macro.specs.Conditions.{IsDm};
 use crate::vectors::has_residual;
 use m2v_bits::BitOutput;
 use m2v_vector::{between, split};
-use m2v_vlc::{code_dmv, code_motion};
-
-/// Appends a motion code.
-#[inline(always)]
-#[tactic(auto, using(m2v_bits::proofs::Cursor::lengths))]
-fn put_motion<O: BitOutput>(value: i8, out: &mut O)
-    requires { length (motion_code value) ≤ O.space out.old }
-    ensures { Gains O.took O.space out.old (motion_code value) out.new }
-{
-    let code = code_motion(value);
-    out.append(code.number, code.len);
-}
+use m2v_vlc::{append_code, code_dmv, code_motion};
 
 /// Appends a residual, where its code has one.
 #[inline(always)]
@@ -47,7 +35,7 @@ fn put_difference<O: BitOutput>(f_code: u8, difference: i32, out: &mut O)
     ensures { Gains O.took O.space out.old (difference_text f_code difference) out.new }
 {
     let (code, residual) = split(difference, f_code);
-    put_motion(code, out);
+    append_code(code_motion(code), out);
     put_residual(f_code, code, residual, out);
 }
 
@@ -74,7 +62,6 @@ pub fn put_dm<O: BitOutput>(dual: bool, dm: i32, out: &mut O)
     ensures { Gains O.took O.space out.old (dm_text dual dm) out.new }
 {
     if dual {
-        let code = code_dmv(dm as i8);
-        out.append(code.number, code.len);
+        append_code(code_dmv(dm as i8), out);
     }
 }

@@ -2,7 +2,7 @@ ghost use Rattle.std.specs.Prelude.{◌≡◌, ℕ, ◌+◌, ◌-◌, ◌≤◌,
 ghost use Rattle.m2v_bits.specs.Syntax.{Gives};
 ghost use Rattle.m2v_macro.specs.States.{address, column as column_of, not_past as not_past_of, in_order as in_order_of, skips as skips_of, may_skip as may_skip_of};
 ghost use Rattle.m2v_macro.specs.Macros.{round_at, increment_at, begins_before as begins_before_of, allowed_at, step_at};
-ghost use Rattle.m2v_macro.specs.Conditions.{IsAddress, IsStep, IsContext};
+ghost use Rattle.m2v_macro.specs.Conditions.{IsAddress, IsBegun, IsStep};
 ghost use Rattle.m2v_macro.specs.Reading.{kept, GivesRound, GivesSum};
 
 use crate::fault::MacroFault;
@@ -27,9 +27,9 @@ fn round(input: &mut BitReader, sum: u32) -> Result<(bool, u32), MacroFault>
     }
 }
 
-/// An increment with its escapes.
+/// An increment with its escapes (clause 6.3.17), kept up to 2^32 - 1.
 #[tactic(auto, unfolding(crate::specs::Macros::increment_from))]
-fn increment(input: &mut BitReader) -> Result<u32, MacroFault>
+pub fn increment(input: &mut BitReader) -> Result<u32, MacroFault>
     ensures exact { GivesSum result input.new.rest (increment_at.read input.old.rest) }
     ensures text { input.new.text ≡ input.old.text }
     ensures some { IfOk result (λ v. 0 < v) }
@@ -144,9 +144,7 @@ pub fn step(
     context: &PictureContext,
     state: &SliceState,
 ) -> Result<u32, MacroFault>
-    requires context { IsContext context.now }
-    requires address { IsAddress state.now.address }
-    requires next { state.now.next ≤ 2 ^ 16 }
+    requires { IsBegun context.now state.now }
     ensures exact { Gives result input.new.rest
         ((step_at context.now state.now).read input.old.rest) }
     ensures text { input.new.text ≡ input.old.text }

@@ -16,10 +16,11 @@ mod write_modes;
 mod write_vectors;
 
 pub use fault::MacroFault;
-pub use increments::begins_before;
+pub use increments::{begins_before, increment, skips};
 pub use laws::{law_one_reading, law_round_trip, law_two_texts};
 pub use m2v_head as head;
 pub use m2v_vector as vector;
 pub use read::{read_macro, read_macro_into};
+pub use state::{dc_reset, pmv_before};
 pub use values::{MacroSyntax, PictureContext, SliceState};
 pub use write::{macro_bits, put_macro, write_macro};

@@ -4,7 +4,7 @@ ghost use Rattle.m2v_macro.specs.States.{is_field as is_field_of, pmv_before as 
 ghost use Rattle.m2v_macro.specs.Vectors.{shape_of as shape_as};
 ghost use Rattle.m2v_macro.specs.Macros.{no_kind, macro_of, directions_at, macro_at, is_concealed as is_concealed_of, f_codes_of};
 ghost use Rattle.m2v_macro.specs.Reading.{GivesMacro};
-ghost use Rattle.m2v_macro.specs.Conditions.{IsContext, IsReady, IsAddress, IsDirection, IsMacro, has_type, is_used, ArePredictors, AreScales};
+ghost use Rattle.m2v_macro.specs.Conditions.{IsContext, IsReady, IsAddress, IsBegun, IsDirection, IsMacro, has_type, is_used, ArePredictors, AreScales};
 
 use crate::fault::MacroFault;
 use crate::increments::step;
@@ -105,10 +105,8 @@ fn macroblock(
     state: &SliceState,
     m: &mut MacroSyntax,
 ) -> Result<(), MacroFault>
-    requires context { IsContext context.now }
     requires state { IsReady context.now state.now }
-    requires address { IsAddress state.now.address }
-    requires next { state.now.next ≤ 2 ^ 16 }
+    requires begun { IsBegun context.now state.now }
     ensures exact { GivesMacro result m.new input.new.rest
         ((macro_at context.now state.now).read input.old.rest) }
     ensures text { input.new.text ≡ input.old.text }

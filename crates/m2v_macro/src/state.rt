@@ -74,7 +74,7 @@ pub fn pmv_before(context: &PictureContext, state: &SliceState, increment: u32) 
 /// The DC predictors as they are reset (clause 7.2.1).
 #[inline(always)]
 #[tactic(auto, unfolding(crate::specs::States::dc_reset))]
-fn dc_reset(context: &PictureContext) -> [i32; 3]
+pub fn dc_reset(context: &PictureContext) -> [i32; 3]
     requires { context.now.extension.dc_precision ≤ 3 }
     ensures { result ≡ dc_reset_of context.now }
 {

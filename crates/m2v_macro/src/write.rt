@@ -15,7 +15,7 @@ use crate::write_modes::{put_dct, put_form, put_kind, put_marker, put_pattern, p
 use crate::write_vectors::put_direction;
 use m2v_bits::{BitCount, BitOutput, BitWriter};
 use m2v_vector::Pmv;
-use m2v_vlc::{Increment, code_increment};
+use m2v_vlc::{Increment, append_code, code_increment};
 
 /// Appends the code of an increment or of the escape.
 #[inline(always)]
@@ -24,8 +24,7 @@ fn put_increment<O: BitOutput>(value: Increment, out: &mut O)
     requires { length (increment_code value) ≤ O.space out.old }
     ensures { Gains O.took O.space out.old (increment_code value) out.new }
 {
-    let code = code_increment(value);
-    out.append(code.number, code.len);
+    append_code(code_increment(value), out);
 }
 
 /// Appends escapes.

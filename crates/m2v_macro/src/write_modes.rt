@@ -1,5 +1,4 @@
 ghost use Rattle.std.specs.Prelude.{◌≡◌, ◌≤◌, ◌<◌, ◌^◌, true, length};
-ghost use Rattle.m2v_bits.specs.Bits.{bits_of};
 ghost use Rattle.m2v_bits.specs.Outputs.{Gains};
 ghost use Rattle.m2v_vlc.specs.Lookups.{spelled};
 ghost use Rattle.m2v_macro.specs.Texts.{flag as flag_text, kind_text, form_text, dct_text, quantiser_text, marker_text, pattern_text};
@@ -7,18 +6,8 @@ ghost use Rattle.m2v_macro.specs.Macros.{has_form as has_form_of};
 
 use crate::modes::{has_dct, has_form, is_concealed};
 use crate::values::PictureContext;
-use m2v_bits::BitOutput;
-use m2v_vlc::{Code, MbType, code_pattern, code_type_b, code_type_i, code_type_p};
-
-/// The bit of a flag.
-#[inline(always)]
-#[tactic(auto, unfolding(m2v_bits::specs::Bits::bits_of))]
-fn bit(b: bool) -> u32
-    ensures below { result < 2 }
-    ensures bits { bits_of 1 result ≡ flag_text b }
-{
-    if b { 1 } else { 0 }
-}
+use m2v_bits::{BitOutput, flag_bit};
+use m2v_vlc::{Code, MbType, append_code, code_pattern, code_type_b, code_type_i, code_type_p};
 
 /// Appends a flag.
 #[inline(always)]
@@ -26,7 +15,7 @@ pub fn put_flag<O: BitOutput>(b: bool, out: &mut O)
     requires { 1 ≤ O.space out.old }
     ensures { Gains O.took O.space out.old (flag_text b) out.new }
 {
-    out.append(bit(b), 1);
+    out.append(flag_bit(b), 1);
 }
 
 /// The code of a macroblock_type by the picture's type, of no bits where its table has none.
@@ -53,8 +42,7 @@ pub fn put_kind<O: BitOutput>(kind: u8, v: MbType, out: &mut O)
     requires { length (kind_text kind v) ≤ O.space out.old }
     ensures { Gains O.took O.space out.old (kind_text kind v) out.new }
 {
-    let code = code_of(kind, v);
-    out.append(code.number, code.len);
+    append_code(code_of(kind, v), out);
 }
 
 /// Appends a motion type, where there is one.
@@ -115,7 +103,6 @@ pub fn put_pattern<O: BitOutput>(kind: MbType, pattern: u8, out: &mut O)
     ensures { Gains O.took O.space out.old (pattern_text kind pattern) out.new }
 {
     if !kind.intra && kind.pattern {
-        let code = code_pattern(pattern);
-        out.append(code.number, code.len);
+        append_code(code_pattern(pattern), out);
     }
 }
