@@ -44,14 +44,13 @@ dropped (suc n) (x ∷ xs) f = dropped n xs (λ k. f (suc k))
 mean_lane : (a b : ℕ) → a < 256 → b < 256 → SUB (OR a b) (SHR (XOR a b) 1) ≡ mean a b
 mean_lane a b ha hb = omega (arith, or_add_and a b, xor_add_and a b)
 
-pub means_are : (n : ℕ) (xs ys : List ℕ) → length xs ≡ n → length ys ≡ n → Small xs → Small ys
+pub means_are : (n : ℕ) (xs ys : List ℕ) → length xs ≡ n → Small xs → Small ys
     → zip2 SUB (zip2 OR xs ys) (zip2 SHR (zip2 XOR xs ys) (replicate n 1)) ≡ zip2 mean xs ys
-means_are zero [] ys lx ly fx fy = refl
-means_are zero (x ∷ xs) ys lx ly fx fy = absurd (omega arith)
-means_are (suc n) [] ys lx ly fx fy = absurd (omega arith)
-means_are (suc n) (x ∷ xs) [] lx ly fx fy = absurd (omega arith)
-means_are (suc n) (x ∷ xs) (y ∷ ys) lx ly fx fy =
-    λ i. mean_lane x y (fx 0) (fy 0) i ∷ means_are n xs ys (suc_inj lx) (suc_inj ly) (λ k. fx (suc k)) (λ k. fy (suc k)) i
+means_are n [] ys lx fx fy = refl
+means_are n (x ∷ xs) [] lx fx fy = refl
+means_are zero (x ∷ xs) (y ∷ ys) lx fx fy = absurd (omega arith)
+means_are (suc n) (x ∷ xs) (y ∷ ys) lx fx fy =
+    λ i. mean_lane x y (fx 0) (fy 0) i ∷ means_are n xs ys (suc_inj lx) (λ k. fx (suc k)) (λ k. fy (suc k)) i
 
 pub means_small : (xs ys : List ℕ) → Small xs → Small ys → Small (zip2 mean xs ys)
 means_small [] ys fx fy i = omega arith

@@ -4,5 +4,5 @@ pub mod Scanned
 mod Zeros
 mod Bits
 mod Lanes
-mod Placed
+pub mod Placed
 pub mod Kept

@@ -131,16 +131,16 @@ pub apart_from : (marks p k : ℕ) → bit_at marks k ≡ 0 → bit_at marks p �
 apart_from marks p k none one e = absurd (omega (arith, one, none, ap (bit_at marks) e))
 
 -- levels by their marks
-abbrev bit_of : Bool → ℕ
+abbrev pub bit_of : Bool → ℕ
 bit_of b = cond b 0 1
 
-none : (b : Bool) → bit_of b ≡ 0 → b ≡ true
-none true e = refl
-none false e = absurd (omega (arith, e))
+pub is_none : (b : Bool) → bit_of b ≡ 0 → b ≡ true
+is_none true e = refl
+is_none false e = absurd (omega (arith, e))
 
-some : (b : Bool) → bit_of b ≡ 1 → b ≡ false
-some true e = absurd (omega (arith, e))
-some false e = refl
+pub is_some : (b : Bool) → bit_of b ≡ 1 → b ≡ false
+is_some true e = absurd (omega (arith, e))
+is_some false e = refl
 
 zero_level : (z : ℤ) → nat_eq (unsigned_abs z) 0 ≡ true → z ≡ pos 0
 zero_level (pos n) e = ap pos (eqb-true n 0 e)
@@ -148,12 +148,12 @@ zero_level (negsuc n) e = absurd (omega (arith, eqb-true (suc n) 0 e))
 
 unmarked : (f : List ℤ) (kind : BlockKind) (from marks p : ℕ) → AreMarked from f kind marks → from ≤ p → p < 64 → (kind.intra ≡ true → p ≡ 0 → ⊥) → bit_at marks p ≡ 0
     → level_at f kind (position kind.alternate p) ≡ pos 0
-unmarked f kind from marks p h le lt later e = placed_level f kind p lt later ∙ zero_level _ (none _ (sym (h p le lt) ∙ e))
+unmarked f kind from marks p h le lt later e = placed_level f kind p lt later ∙ zero_level _ (is_none _ (sym (h p le lt) ∙ e))
 
 is_marked : (f : List ℤ) (kind : BlockKind) (from marks p : ℕ) → AreMarked from f kind marks → from ≤ p → p < 64 → (kind.intra ≡ true → p ≡ 0 → ⊥) → bit_at marks p ≡ 1
     → nat_eq (unsigned_abs (level_at f kind (position kind.alternate p))) 0 ≡ false
 is_marked f kind from marks p h le lt later e =
-    ap (λ (level : ℤ). nat_eq (unsigned_abs level) 0) (placed_level f kind p lt later) ∙ some _ (sym (h p le lt) ∙ e)
+    ap (λ (level : ℤ). nat_eq (unsigned_abs level) 0) (placed_level f kind p lt later) ∙ is_some _ (sym (h p le lt) ∙ e)
 
 -- all zeros but for what is marked
 pub zeros_placed : (f : List ℤ) (kind : BlockKind) (marks : ℕ) → kind.intra ≡ false → AreMarked 0 f kind marks → ArePlacedBut marks f kind (replicate 64 (pos 0))

@@ -9,12 +9,12 @@ pub overflow_cast-result-3 : goal.overflow_cast-result-3
 overflow_cast-result-3 c =
     let x = c.args.x in let y = c.args.y in
     let fx = c.requires.one.small in let fy = c.requires.other.small in
-    rw (lanes_apart 16 x y c.requires.x c.requires.y fx fy)
-    (lanes_ask 16 x y c.requires.x c.requires.y fx fy)
+    rw (lanes_apart 16 x y c.requires.x fx fy)
+    (lanes_ask x y fx fy)
 
 pub returns : goal.returns
 returns c =
     let x = c.args.x in let y = c.args.y in
     let fx = c.requires.one.small in let fy = c.requires.other.small in
-    rw (lanes_apart 16 x y c.requires.x c.requires.y fx fy, lanes_cast 16 x y c.requires.x c.requires.y fx fy)
+    rw (lanes_apart 16 x y c.requires.x fx fy, lanes_cast x y fx fy)
     (record { value = refl; len = length-zip2 apart x y (c.requires.x ∙ sym c.requires.y) ∙ c.requires.x; most = omega (arith, apart_most x y fx fy); sum = sum_is_sum_l (zip2 apart x y) })

@@ -7,7 +7,7 @@ use Rattle.m2v_kernel.proofs.lanes.mean_lanes.Goals as goal
 pub returns : goal.returns
 returns c =
     let x = c.args.x in let y = c.args.y in
-    rw (means_are 16 x y c.requires.x c.requires.y c.requires.one.small c.requires.other.small)
+    rw (means_are 16 x y c.requires.x c.requires.one.small c.requires.other.small)
     (record {
       value = refl;
       len = length-zip2 mean x y (c.requires.x ∙ sym c.requires.y) ∙ c.requires.x;
