@@ -126,7 +126,6 @@ pub record PuttingOn (most : ℕ) (old now : Copied) (left held : Change) (c0 c 
   pub grown : Grows held.old (all_bytes mids) held.new
   pub bytes : now.bytes ≡ old.bytes + all_lengths mids
 
--- The input's states are i0, i1 and so on, the output's o0, o1.
 module _ {S K : Type 0} (left : S → Option (List ℕ)) (input_faults : S → ℕ) (held : K → Option (List ℕ)) (output_faults : K → ℕ) where
   abbrev input : S → S → Change
   input = change left input_faults

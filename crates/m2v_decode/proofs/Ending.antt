@@ -40,7 +40,6 @@ decodes_to text es b r = record {
 all_fit : (text : List ℕ) (es : Events) (st : Between) → (b : PiecesRead text es st []) → AllFit (start_of text) (pieces text)
 all_fit text es st b = subst (AllFit (start_of text)) (sym (b.are ∙ append-nil b.first)) b.fit
 
--- The input's states are i0, i1 and so on, the output's o0, o1.
 module _ {S K : Type 0} (left : S → Option (List ℕ)) (input_faults : S → ℕ) (held : K → Option (List ℕ)) (output_faults : K → ℕ) where
   abbrev input : S → S → Change
   input = change left input_faults

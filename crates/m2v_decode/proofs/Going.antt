@@ -220,7 +220,6 @@ reached_later taken more text start others frames d le r = record {
 
 -- ---- between two pieces
 
--- The input's states are i0, i1 and so on, the output's o0, o1.
 module _ {S K : Type 0} (left : S → Option (List ℕ)) (input_faults : S → ℕ) (held : K → Option (List ℕ)) (output_faults : K → ℕ) where
   abbrev input : S → S → Change
   input = change left input_faults

@@ -33,6 +33,9 @@ moves_on {old} {between} {new} {xs} {ys} first second = record { was = first.was
     joined None = refl
     joined (Some rest) = ap Some (sym (append_assoc xs ys rest))
 
+pub then_nothing : {old between new : Option (List ℕ)} {bytes : List ℕ} → Moves old bytes between → Moves between [] new → Moves old bytes new
+then_nothing {old} {between} {new} {bytes} first second = subst (λ (b : List ℕ). Moves old b new) (append-nil bytes) (moves_on first second)
+
 take_past : (xs ys : List ℕ) (m n : ℕ) → length xs ≡ m → take (m + n) (xs ++ ys) ≡ xs ++ take n ys
 take_past [] ys m n is = let same : m + n ≡ n = omega arith in ap (λ k. take k ys) same
 take_past (x ∷ xs) ys zero n is = absurd (omega arith)

@@ -10,7 +10,8 @@ pub record Change : Type 1 where
   pub Failed : Type 0
   pub Unchanged : Type 0
 
--- the change from one state of an endpoint to another, by what it tells and its count
+-- The change from one state of an endpoint to another, by what it tells and its count. Where proofs have several states
+-- of an input, they are i0, i1 and so on; those of output are o0, o1, those of recon r0, r1.
 abbrev pub change : {E : Type 0} → (E → Option (List ℕ)) → (E → ℕ) → E → E → Change
 change tells faults old new = record { old = tells old; new = tells new; Failed = Rose (faults old) (faults new); Unchanged = new ≡ old }
 

@@ -11,7 +11,7 @@ use Rattle.m2v_set.specs.Rules.{Passes}
 use Rattle.m2v_set.proofs.Facts.{bounds}
 use Rattle.m2v_vbv.specs.Annex.{Start, Removal, removed, held_endless, Safe}
 use Rattle.m2v_vbv.specs.Account.{State, after, stuffing_of, arriving, account_of}
-use Rattle.m2v_vbv.proofs.Sums.{Exact, account_push, exact_push, exact_none, opening_is}
+use Rattle.m2v_vbv.proofs.Sums.{AllAt, at_split, Exact, account_push, exact_push, exact_none, opening_is}
 use Rattle.m2v_rate.specs.declared.values.Plan.{Plan}
 use Rattle.m2v_rate.specs.Sharing.{IsPictureActivity}
 use Rattle.m2v_rate.specs.Plans.{Entries, income, account_at, first_open, Low, plan_of, fresh}
@@ -85,22 +85,6 @@ gone_whole c j h lt =
 
 -- ---- lists of removals
 
-abbrev AllAt : (List Removal → Removal → Type 0) → List Removal → List Removal → Type 0
-AllAt P before [] = Unit {0}
-AllAt P before (r ∷ rs) = P before r × AllAt P (before ++ r ∷ []) rs
-
-at_split : (P : List Removal → Removal → Type 0) (rs before : List Removal) → AllAt P before rs
-    → (b : List Removal) (r : Removal) (l : List Removal) → rs ≡ b ++ r ∷ l → P (before ++ b) r
-at_split P [] before all [] r l e = absurd (cc)
-at_split P [] before all (y ∷ b) r l e = absurd (cc)
-at_split P (x ∷ rs) before all [] r l e =
-    let same : x ≡ r = cc in rw (append-nil before, ← same) all.0
-at_split P (x ∷ rs) before all (y ∷ b) r l e =
-    let same : x ≡ y = cc in
-    let rest : rs ≡ b ++ r ∷ l = cc in
-    subst (λ (xs : List Removal). P xs r) (append_assoc before (y ∷ []) b)
-    (at_split P rs (before ++ y ∷ []) (subst (λ (z : Removal). AllAt P (before ++ z ∷ []) rs) same all.1) b r l rest)
-
 -- a picture is whole when it is removed behind these, and the buffer takes what is held
 abbrev IsHeld : Start → List Removal → Removal → Type 0
 IsHeld start before r = (1800 * r.bits ≤ held_endless start before) × (held_endless start before ≤ 1800 * start.buffer_bits)
@@ -163,6 +147,19 @@ stream_all (g ∷ (k ∷ gs)) l start before h coded e exact =
 
 -- ---- whole streams
 
+-- where no picture is planned, the ledger is steady
+pub steady_none : (l : Entries) → IsBegun l → length l.caps ≡ 0 → length l.targets ≡ 0 → length l.quantisers ≡ 0 → length l.sizes ≡ 0 → IsSteady l
+steady_none l begun caps targets quantisers sizes = record {
+  begun = begun;
+  planned = omega (arith, caps);
+  targeted = targets ∙ sym caps;
+  quantised = quantisers ∙ sym caps;
+  known = omega (arith, caps, sizes);
+  ahead = omega (arith, caps, sizes);
+  sizes = λ j lt. absurd (omega (arith, lt, sizes));
+  caps = λ j lt. absurd (omega (arith, lt, caps));
+}
+
 pub fresh_begun : (s : Settings) → Passes s → IsBegun (fresh s)
 fresh_begun s passes =
     let b = bounds s passes in
@@ -181,16 +178,7 @@ pub fresh_ledger : (s : Settings) → Passes s → IsLedger (fresh s)
 fresh_ledger s passes = record {
   few = omega arith;
   removals = omega arith;
-  steady = record {
-    begun = fresh_begun s passes;
-    planned = omega arith;
-    targeted = refl;
-    quantised = refl;
-    known = omega arith;
-    ahead = omega arith;
-    sizes = λ j lt. absurd (omega (arith, lt));
-    caps = λ j lt. absurd (omega (arith, lt));
-  };
+  steady = steady_none (fresh s) (fresh_begun s passes) refl refl refl refl;
   measured = record {
     active = refl;
     activities = λ even. All-nil IsPictureActivity;

@@ -1,14 +1,15 @@
 -- What follows for settings that pass.
-use Rattle.std.proofs.Common.{◌≡◌, ◌≤◌, List, [], ◌∷◌, refl, sym, ◌∙◌, Bool, true, false, Result, Ok, Err, arith, if◌then◌else◌}
+use Rattle.std.proofs.Common.{◌≡◌, ℕ, ◌*◌, ◌%◌, ◌≤◌, List, [], ◌∷◌, refl, sym, ◌∙◌, Bool, true, false, Result, Ok, Err, arith, if◌then◌else◌}
 use Rattle.std.proofs.lemmas.Bool.{leb-true, eqb-true}
+use Rattle.m2v_set.specs.declared.limits.Limits.{Limits}
 use Rattle.m2v_set.specs.declared.unfit.Unfit.{Unfit}
 use Rattle.m2v_set.specs.declared.settings.Settings.{Settings}
 use Rattle.m2v_set.specs.declared.settings.Level.{Level}
 use Rattle.m2v_set.specs.declared.settings.Scan.{Scan}
 use Rattle.m2v_set.specs.declared.settings.Level.TheVariants.{Main, High1440, High}
 use Rattle.m2v_set.specs.declared.settings.Scan.TheVariants.{Progressive, Frames, Fields}
-use Rattle.m2v_set.specs.Numbers.{limits_of}
-use Rattle.m2v_set.specs.Rules.{Condition, judge, judged, and_then, frame_rules, channel_rules, buffer_rules, delay_rules, choice_rules, pulldown_rules, scan_number, Passes}
+use Rattle.m2v_set.specs.Numbers.{limits_of, frame_time}
+use Rattle.m2v_set.specs.Rules.{Condition, judge, judged, and_then, frame_rules, channel_rules, buffer_rules, delay_rules, choice_rules, pulldown_rules, scan_number, line_step, Passes}
 use Rattle.m2v_set.specs.Bounds.{InSize, InLevel, InTime, InChoice, InPulldown, Bounds}
 use Rattle.m2v_set.proofs.Judged.{in_turn}
 
@@ -44,76 +45,72 @@ all_hold [] e = tt
 all_hold (c ∷ cs) e =
     (judge-holds c (and_then-first (judge c) (judged cs) e), all_hold cs (and_then-next (judge c) (judged cs) e))
 
-limit-width : (l : Level) → (limits_of l).width ≤ 1920
-unfolding limits_of
-limit-width Main = omega arith
-limit-width High1440 = omega arith
-limit-width High = omega arith
+-- what bounds every level
+record InLimits (limit : Limits) : Type 0 where
+  pub width : limit.width ≤ 1920
+  pub height : limit.height ≤ 1152
+  pub codes : limit.codes ≤ 8
+  pub bits : limit.bits ≤ 200000
+  pub buffer : limit.buffer ≤ 597
 
-limit-height : (l : Level) → (limits_of l).height ≤ 1152
+in_limits : (l : Level) → InLimits (limits_of l)
 unfolding limits_of
-limit-height Main = omega arith
-limit-height High1440 = omega arith
-limit-height High = omega arith
+in_limits Main = record { width = omega arith; height = omega arith; codes = omega arith; bits = omega arith; buffer = omega arith }
+in_limits High1440 = record { width = omega arith; height = omega arith; codes = omega arith; bits = omega arith; buffer = omega arith }
+in_limits High = record { width = omega arith; height = omega arith; codes = omega arith; bits = omega arith; buffer = omega arith }
 
-limit-codes : (l : Level) → (limits_of l).codes ≤ 8
-unfolding limits_of
-limit-codes Main = omega arith
-limit-codes High1440 = omega arith
-limit-codes High = omega arith
+-- what the first part of rule 1 says
+pub record InFrame (limit : Limits) (scan : Scan) (across down number : ℕ) : Type 0 where
+  pub wide : 2 ≤ across
+  pub width : across ≤ limit.width
+  pub even : across % 2 ≡ 0
+  pub tall : line_step scan ≤ down
+  pub height : down ≤ limit.height
+  pub lines : down % line_step scan ≡ 0
+  pub code : 1 ≤ number
+  pub codes : number ≤ limit.codes
+  pub luma : 720000 * across * down ≤ limit.luma * frame_time number
 
-limit-bits : (l : Level) → (limits_of l).bits ≤ 200000
-unfolding limits_of
-limit-bits Main = omega arith
-limit-bits High1440 = omega arith
-limit-bits High = omega arith
-
-limit-buffer : (l : Level) → (limits_of l).buffer ≤ 597
-unfolding limits_of
-limit-buffer Main = omega arith
-limit-buffer High1440 = omega arith
-limit-buffer High = omega arith
-
-in_size : (s : Settings) → judged (frame_rules (limits_of s.level) s.scan s.width s.height s.rate_code) ≡ Ok tt
-    → judged (channel_rules (limits_of s.level) s) ≡ Ok tt → InSize s
-unfolding frame_rules channel_rules
-in_size s e f =
-    let h = all_hold (frame_rules (limits_of s.level) s.scan s.width s.height s.rate_code) e in
-    let k = all_hold (channel_rules (limits_of s.level) s) f in
-    let w : s.width ≤ (limits_of s.level).width = leb-true _ _ h.1.0 in
-    let t : s.height ≤ (limits_of s.level).height = leb-true _ _ h.1.1.1.1.0 in
-    let c : s.rate_code ≤ (limits_of s.level).codes = leb-true _ _ h.1.1.1.1.1.1.1.0 in
-    let b : s.bits ≤ (limits_of s.level).bits = leb-true _ _ k.1.0 in
-    let r : s.buffer ≤ (limits_of s.level).buffer = leb-true _ _ k.1.1.1.0 in
+pub in_frame : (limit : Limits) (scan : Scan) (across down number : ℕ) → judged (frame_rules limit scan across down number) ≡ Ok tt → InFrame limit scan across down number
+unfolding frame_rules
+in_frame limit scan across down number e =
+    let h = all_hold (frame_rules limit scan across down number) e in
     record {
       wide = leb-true _ _ h.0;
-      width = omega (arith, limit-width s.level);
+      width = leb-true _ _ h.1.0;
       even = eqb-true _ _ h.1.1.0;
       tall = leb-true _ _ h.1.1.1.0;
-      height = omega (arith, limit-height s.level);
+      height = leb-true _ _ h.1.1.1.1.0;
       lines = eqb-true _ _ h.1.1.1.1.1.0;
       code = leb-true _ _ h.1.1.1.1.1.1.0;
-      codes = omega (arith, limit-codes s.level);
-      bit = leb-true _ _ k.0;
-      bits = omega (arith, limit-bits s.level);
-      buffered = leb-true _ _ k.1.1.0;
-      buffer = omega (arith, limit-buffer s.level);
-    }
-
-in_level : (s : Settings) → judged (frame_rules (limits_of s.level) s.scan s.width s.height s.rate_code) ≡ Ok tt
-    → judged (channel_rules (limits_of s.level) s) ≡ Ok tt → InLevel s
-unfolding frame_rules channel_rules
-in_level s e f =
-    let h = all_hold (frame_rules (limits_of s.level) s.scan s.width s.height s.rate_code) e in
-    let k = all_hold (channel_rules (limits_of s.level) s) f in
-    record {
-      width = leb-true _ _ h.1.0;
-      height = leb-true _ _ h.1.1.1.1.0;
       codes = leb-true _ _ h.1.1.1.1.1.1.1.0;
       luma = leb-true _ _ h.1.1.1.1.1.1.1.1.0;
-      bits = leb-true _ _ k.1.0;
-      buffer = leb-true _ _ k.1.1.1.0;
     }
+
+-- rule 1 says the bounds of the level, and those of every level
+in_rates : (s : Settings) → InFrame (limits_of s.level) s.scan s.width s.height s.rate_code → judged (channel_rules (limits_of s.level) s) ≡ Ok tt → InSize s × InLevel s
+unfolding channel_rules
+in_rates s f e =
+    let k = all_hold (channel_rules (limits_of s.level) s) e in
+    let bits : s.bits ≤ (limits_of s.level).bits = leb-true _ _ k.1.0 in
+    let buffer : s.buffer ≤ (limits_of s.level).buffer = leb-true _ _ k.1.1.1.0 in
+    let l = in_limits s.level in (
+      record {
+        wide = f.wide;
+        width = omega (arith, f.width, l.width);
+        even = f.even;
+        tall = f.tall;
+        height = omega (arith, f.height, l.height);
+        lines = f.lines;
+        code = f.code;
+        codes = omega (arith, f.codes, l.codes);
+        bit = leb-true _ _ k.0;
+        bits = omega (arith, l.bits);
+        buffered = leb-true _ _ k.1.1.0;
+        buffer = omega (arith, l.buffer);
+      },
+      record { width = f.width; height = f.height; codes = f.codes; luma = f.luma; bits = bits; buffer = buffer },
+    )
 
 in_time : (s : Settings) → judged (buffer_rules s) ≡ Ok tt → judged (delay_rules s) ≡ Ok tt → InTime s
 unfolding buffer_rules delay_rules
@@ -170,9 +167,10 @@ bounds s passes =
     let c = and_then-next _ _ b in
     let d = and_then-next _ _ c in
     let e = and_then-next _ _ d in
+    let rates = in_rates s (in_frame (limits_of s.level) s.scan s.width s.height s.rate_code (and_then-first _ _ a)) (and_then-first _ _ b) in
     record {
-      size = in_size s (and_then-first _ _ a) (and_then-first _ _ b);
-      level = in_level s (and_then-first _ _ a) (and_then-first _ _ b);
+      size = rates.0;
+      level = rates.1;
       time = in_time s (and_then-first _ _ c) (and_then-first _ _ d);
       choice = in_choice s (and_then-first _ _ e);
       pulldown = in_pulldown s (and_then-next _ _ e);

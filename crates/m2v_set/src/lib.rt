@@ -9,6 +9,8 @@ mod settings;
 mod unfit;
 
 pub use m2v_plane as plane;
+pub use numbers::time_of_field;
 pub use passed::{Passed, test_flat};
+pub use rules::{at_least, at_most};
 pub use settings::{Level, Planning, Scan, Settings};
 pub use unfit::Unfit;

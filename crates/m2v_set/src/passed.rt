@@ -76,9 +76,7 @@ impl Passed {
         ensures value { result ≡ delay_of self.now }
         ensures most { result ≤ 65534 }
     {
-        // the bounds of settings that pass
-        let _known = self.settings();
-        numbers::delay(&self.settings)
+        numbers::delay(self.settings())
     }
 
     /// The time from one picture to the next, in units of 1/720,000 s.
@@ -102,9 +100,7 @@ impl Passed {
         ensures value { result ≡ arrival_of self.now }
         ensures most { result < 2 ^ 33 }
     {
-        // the bounds of settings that pass
-        let _known = self.settings();
-        numbers::arrival(&self.settings)
+        numbers::arrival(self.settings())
     }
 
     /// The most bits of an emergency picture, with all its headers and an end code.
@@ -112,9 +108,7 @@ impl Passed {
         ensures value { result ≡ least_of self.now }
         ensures most { result < 2 ^ 24 }
     {
-        // the bounds of settings that pass
-        let _known = self.settings();
-        numbers::least(&self.settings)
+        numbers::least(self.settings())
     }
 
     /// What arrives at most from one picture to the next, in units of 1/1800 bit.
@@ -122,9 +116,7 @@ impl Passed {
         ensures value { result ≡ longest_of self.now }
         ensures most { result < 2 ^ 34 }
     {
-        // the bounds of settings that pass
-        let _known = self.settings();
-        numbers::longest(&self.settings)
+        numbers::longest(self.settings())
     }
 
     /// Whether film frames are shown for three and two fields in turn.

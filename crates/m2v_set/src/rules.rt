@@ -1,5 +1,5 @@
 //! The conditions of the published test, in order.
-ghost use Rattle.std.specs.Prelude.{◌≡◌, ◌≤◌, ◌%◌, OnOk};
+ghost use Rattle.std.specs.Prelude.{◌≡◌, ◌≤◌, ◌%◌, IsTrue, OnOk};
 ghost use Rattle.m2v_set.specs.Rules.{judge, judged, at_least, at_most, is_zero, is_progressive, line_step, scan_number, frame_rules, channel_rules, buffer_rules, delay_rules, choice_rules, pulldown_rules, quantiser_rules, rules};
 
 use crate::limits::{Limits, limits_at};
@@ -7,47 +7,41 @@ use crate::numbers;
 use crate::settings::{Scan, Settings};
 use crate::unfit::Unfit;
 
-/// The value is at least the bound.
+/// A condition on two numbers passes, or its rule and they are told.
 #[tactic(auto, unfolding(crate::specs::Rules::judge))]
-fn at_least(rule: u8, have: u128, need: u128) -> Result<(), Unfit>
+fn judge(rule: u8, have: u128, need: u128, holds: bool) -> Result<(), Unfit>
+    ensures value { result ≡ judge (record { rule = rule; have = have; need = need; holds = holds }) }
+    ensures holds { OnOk result (IsTrue holds) }
+{
+    if holds {
+        Ok(())
+    } else {
+        Err(Unfit { rule, have, need })
+    }
+}
+
+/// The value is at least the bound.
+pub fn at_least(rule: u8, have: u128, need: u128) -> Result<(), Unfit>
     ensures value { result ≡ judge (at_least rule have need) }
     ensures holds { OnOk result (need ≤ have) }
 {
-    if need <= have {
-        Ok(())
-    } else {
-        Err(Unfit { rule, have, need })
-    }
+    judge(rule, have, need, need <= have)
 }
 
 /// The value is at most the bound.
-#[tactic(auto, unfolding(crate::specs::Rules::judge))]
-fn at_most(rule: u8, have: u128, need: u128) -> Result<(), Unfit>
+pub fn at_most(rule: u8, have: u128, need: u128) -> Result<(), Unfit>
     ensures value { result ≡ judge (at_most rule have need) }
     ensures holds { OnOk result (have ≤ need) }
 {
-    if have <= need {
-        Ok(())
-    } else {
-        Err(Unfit { rule, have, need })
-    }
+    judge(rule, have, need, have <= need)
 }
 
 /// The remainder is 0.
-#[tactic(auto, unfolding(crate::specs::Rules::judge))]
 fn is_zero(rule: u8, have: u128) -> Result<(), Unfit>
     ensures value { result ≡ judge (is_zero rule have) }
     ensures holds { OnOk result (have ≡ 0) }
 {
-    if have == 0 {
-        Ok(())
-    } else {
-        Err(Unfit {
-            rule,
-            have,
-            need: 0,
-        })
-    }
+    judge(rule, have, 0, have == 0)
 }
 
 /// What the lines of a frame are a multiple of.

@@ -7,7 +7,7 @@ use Rattle.m2v_vbv.specs.Annex.{Start, Removal, removed, time_of, arrived, held_
 use Rattle.m2v_vbv.specs.Account.{State, after, arriving, account_of}
 use Rattle.m2v_vbv.specs.Buffer.{Picture, Buffer, constant_start, size_of, have_of, is_over, is_under, told, next, removal_of, removals, left, run, tells, fails}
 use Rattle.m2v_vbv.specs.Deliveries.{NoneFails, as_buffer, IsSafeAt, IsUnsafeAt, SafeIn, FailsFirst, UnsafeFirst}
-use Rattle.m2v_vbv.proofs.Sums.{Exact, exact_none, exact_push, account_push, opening_is}
+use Rattle.m2v_vbv.proofs.Sums.{AllAt, at_split, from_splits, Exact, exact_none, exact_push, account_push, opening_is}
 use Rattle.m2v_vbv.proofs.Fine.{left_cons, wait_fine, full_fine}
 
 -- the buffer behind these removals, by Annex C's sums
@@ -67,9 +67,8 @@ run_is start step behind (p ∷ ps) rs exact none =
 
 -- ---- safety
 
-AllSafe : Start → ℕ → List Removal → List Removal → Type 0
-AllSafe start total before [] = Unit {0}
-AllSafe start total before (r ∷ rs) = IsSafeAt start total before r × AllSafe start total (before ++ r ∷ []) rs
+abbrev AllSafe : Start → ℕ → List Removal → List Removal → Type 0
+AllSafe start total = AllAt (IsSafeAt start total)
 
 more_removed : (start : Start) (rs : List Removal) (p : Picture) (ps : List Picture) (behind total : ℕ) → removed rs + left (p ∷ ps) behind ≡ total
     → removed (rs ++ removal_of p ∷ []) + left ps behind ≡ total
@@ -79,7 +78,7 @@ more_removed start rs p ps behind total e =
 to_safe : (start : Start) (step behind total : ℕ) (ps : List Picture) (rs : List Removal) → Exact start rs
     → removed rs + left ps behind ≡ total → NoneFails (tells (summed start step rs) ps behind)
     → AllSafe start total rs (removals ps)
-unfolding AllSafe tells told account_of
+unfolding tells told account_of
 to_safe start step behind total [] rs exact all none = tt
 to_safe start step behind total (p ∷ ps) rs exact all none =
     let rest : ℕ = left (p ∷ ps) behind in
@@ -96,7 +95,7 @@ to_safe start step behind total (p ∷ ps) rs exact all none =
 from_safe : (start : Start) (step behind total : ℕ) (ps : List Picture) (rs : List Removal) → Exact start rs
     → removed rs + left ps behind ≡ total → AllSafe start total rs (removals ps)
     → NoneFails (tells (summed start step rs) ps behind)
-unfolding AllSafe tells told account_of
+unfolding tells told account_of
 from_safe start step behind total [] rs exact all safe = tt
 from_safe start step behind total (p ∷ ps) rs exact all safe =
     let rest : ℕ = left (p ∷ ps) behind in
@@ -110,30 +109,6 @@ from_safe start step behind total (p ∷ ps) rs exact all safe =
       subst (λ b. NoneFails (tells b ps behind)) (sym e)
           (from_safe start step behind total ps (rs ++ r ∷ []) (exact_push start rs r exact whole) (more_removed start rs p ps behind total all) safe.1),
     )
-
-at_split : (start : Start) (total : ℕ) (rs before : List Removal) → AllSafe start total before rs
-    → (b : List Removal) (r : Removal) (l : List Removal) → rs ≡ b ++ r ∷ l → IsSafeAt start total (before ++ b) r
-unfolding AllSafe
-at_split start total [] before safe [] r l e = absurd (cc)
-at_split start total [] before safe (y ∷ b) r l e = absurd (cc)
-at_split start total (x ∷ rs) before safe [] r l e =
-    let same : x ≡ r = cc in subst (λ z. IsSafeAt start total (before ++ []) z) same (subst (λ xs. IsSafeAt start total xs x) (sym (append-nil before)) safe.0)
-at_split start total (x ∷ rs) before safe (y ∷ b) r l e =
-    let same : x ≡ y = cc in
-    let rest : rs ≡ b ++ r ∷ l = cc in
-    subst (λ xs. IsSafeAt start total xs r) (append_assoc before (y ∷ []) b)
-    (at_split start total rs (before ++ y ∷ []) (subst (λ z. AllSafe start total (before ++ z ∷ []) rs) same safe.1) b r l rest)
-
-from_splits : (start : Start) (total : ℕ) (rs before : List Removal)
-    → ((b : List Removal) (r : Removal) (l : List Removal) → rs ≡ b ++ r ∷ l → IsSafeAt start total (before ++ b) r)
-    → AllSafe start total before rs
-unfolding AllSafe
-from_splits start total [] before each = tt
-from_splits start total (r ∷ rs) before each = (
-  subst (λ xs. IsSafeAt start total xs r) (append-nil before) (each [] r rs refl),
-  from_splits start total rs (before ++ r ∷ [])
-      (λ b x l e. subst (λ xs. IsSafeAt start total xs x) (sym (append_assoc before (r ∷ []) b)) (each (r ∷ b) x l (ap (λ xs. r ∷ xs) e))),
-)
 
 -- ---- from the stream's start
 
@@ -157,7 +132,7 @@ held_is start step rest ps none =
 pub safe_to : (start : Start) (step behind : ℕ) (ps : List Picture) → NoneFails (tells (constant_start start step) ps behind)
     → SafeIn start (removed (removals ps) + behind) (removals ps)
 safe_to start step behind ps none =
-    at_split start (removed (removals ps) + behind) (removals ps) []
+    at_split (IsSafeAt start (removed (removals ps) + behind)) (removals ps) []
     (to_safe start step behind (removed (removals ps) + behind) ps [] (exact_none start) (all_of ps behind)
     (subst (λ b. NoneFails (tells b ps behind)) (start_is start step) none))
 
@@ -166,7 +141,7 @@ pub safe_from : (start : Start) (step behind : ℕ) (ps : List Picture) → Safe
 safe_from start step behind ps safe =
     subst (λ b. NoneFails (tells b ps behind)) (sym (start_is start step))
     (from_safe start step behind (removed (removals ps) + behind) ps [] (exact_none start) (all_of ps behind)
-    (from_splits start (removed (removals ps) + behind) (removals ps) [] safe))
+    (from_splits (IsSafeAt start (removed (removals ps) + behind)) (removals ps) [] safe))
 
 -- ---- the first failure
 
