@@ -19,9 +19,10 @@ use Rattle.m2v_pred.specs.declared.mode.MbPlace.{MbPlace}
 use Rattle.m2v_pred.specs.Vectors.{IsPlace}
 use Rattle.m2v_pred.specs.Inside.{is_inside}
 use Rattle.m2v_macroblock.specs.Macroblocks.{kind_for}
-use Rattle.m2v_macroblock.specs.Modes.{address_of, skipped_before, first_skipped}
+use Rattle.m2v_macroblock.specs.Modes.{address_of, skipped_before, first_skipped, mode_of}
 use Rattle.m2v_model.specs.Modes.{is_decoded, all_inside, references_decoded}
 use Rattle.m2v_dec_picture.specs.declared.gap.Gap.{Gap}
+use Rattle.m2v_dec_picture.specs.declared.located.Located.{Located}
 use Rattle.m2v_dec_picture.specs.declared.slice_kinds.SliceKinds.{SliceKinds}
 
 -- what the headers say can be, and the frame is as wide as the picture
@@ -114,6 +115,13 @@ pub record IsGap (c : PictureContext) (row : ℕ) (st : SliceState) (m : MacroSy
   pub count : gap.count ≡ skipped_before st m
   pub first : 0 < gap.count → first_skipped st ≡ row * c.columns + gap.column
   pub within : 0 < gap.count → gap.column + gap.count < c.columns
+
+-- a macroblock that was read, with its mode and where it and those skipped before it lie
+pub record IsLocated (c : PictureContext) (row : ℕ) (st : SliceState) (x : Located) : Type 0 where
+  pub fits : IsMacro c st x.syntax
+  pub mode : x.mode ≡ mode_of c x.syntax
+  pub gap : IsGap c row st x.syntax x.gap
+  pub column : IsColumn c row st x.syntax x.column
 
 -- ---- how many macroblocks are large
 

@@ -25,35 +25,8 @@ fn clear(out: &mut SparseLevels)
     out.open(0);
 }
 
-/// A coded block's levels.
-#[inline(always)]
-#[tactic(auto, unfolding(m2v_bits::specs::Syntax::renamed))]
-fn coded_block(
-    input: &mut BitReader,
-    kind: &BlockKind,
-    table_one: bool,
-    predictor: i32,
-    out: &mut SparseLevels,
-) -> Result<(), Stop>
-    requires kind { IsKind kind.now }
-    requires predictor { kind.now.intra ≡ true → IsDc kind.now.precision predictor }
-    ensures exact { TellsLevels result out.new.at input.new.rest
-        ((renamed faults.of_block (block_at kind.now table_one predictor)).read input.old.rest) }
-    ensures text { input.new.text ≡ input.old.text }
-    ensures left { IfErr result (λ e. e.left ≤ length input.old.text) }
-    ensures levels { All IsLevel out.new.at }
-    ensures dc { OnOk result (kind.now.intra ≡ true
-        → IsDc kind.now.precision (slice_index_or out.new.at 0 (pos 0))) }
-{
-    let mut dc = predictor;
-    match read_block(input, kind, table_one, &mut dc, out) {
-        Ok(()) => Ok(()),
-        Err(e) => Err(stopped(input, of_block(e))),
-    }
-}
-
 /// A block's levels, all 0 where it isn't coded.
-#[tactic(auto, unfolding(m2v_bits::specs::Syntax::choose, m2v_bits::specs::Syntax::done))]
+#[tactic(auto, unfolding(m2v_bits::specs::Syntax::renamed, m2v_bits::specs::Syntax::choose, m2v_bits::specs::Syntax::done))]
 fn block(
     input: &mut BitReader,
     kind: &BlockKind,
@@ -74,7 +47,11 @@ fn block(
         → IsDc kind.now.precision (slice_index_or out.new.at 0 (pos 0))) }
 {
     if coded {
-        return coded_block(input, kind, table_one, predictor, out);
+        let mut dc = predictor;
+        return match read_block(input, kind, table_one, &mut dc, out) {
+            Ok(()) => Ok(()),
+            Err(e) => Err(stopped(input, of_block(e))),
+        };
     }
     clear(out);
     Ok(())

@@ -1,4 +1,4 @@
-ghost use Rattle.std.specs.Prelude.{◌≡◌, ◌+◌, ◌*◌, ◌≤◌, ◌<◌, ◌^◌, IfOk, IfErr, IfSome, OnOk, IsSome, length, true, false, Some, None, if◌then◌else◌};
+ghost use Rattle.std.specs.Prelude.{◌≡◌, ◌+◌, ◌*◌, ◌≤◌, ◌<◌, ◌^◌, IfOk, IfErr, IfSome, OnOk, IsSome, option_copied, length, true, false, Some, None, if◌then◌else◌};
 ghost use Rattle.m2v_plane.specs.Sizes.{IsSize, part_of};
 ghost use Rattle.m2v_plane.specs.declared.dims.Dims.{Dims as DimsOf};
 ghost use Rattle.m2v_plane.specs.Samples.{blank, with_row};
@@ -110,26 +110,12 @@ fn copy_of(alloc: Global, spare: &mut Vec<Frame>, frame: &Frame) -> Result<Frame
 fn copy_of_some(
     alloc: Global,
     spare: &mut Vec<Frame>,
-    frame: &Option<Frame>,
+    frame: Option<&Frame>,
 ) -> Result<Option<Frame>, Memory>
-    ensures { IfOk result (λ f. f ≡ frame.now) }
+    ensures { IfOk result (λ f. f ≡ option_copied frame.entry) }
 {
     match frame {
         Some(frame) => Ok(Some(copy_of(alloc, spare, frame)?)),
-        None => Ok(None),
-    }
-}
-
-/// A copy of a shared frame that is there.
-fn copy_of_shared(
-    alloc: Global,
-    spare: &mut Vec<Frame>,
-    frame: &Option<SharedFrame>,
-) -> Result<Option<Frame>, Memory>
-    ensures { IfOk result (λ f. f ≡ frame.now) }
-{
-    match frame {
-        Some(frame) => Ok(Some(copy_of(alloc, spare, frame.frame())?)),
         None => Ok(None),
     }
 }
@@ -219,9 +205,9 @@ impl Gallery {
             }) }
     {
         Ok(FramesAtHand {
-            older: copy_of_shared(alloc, &mut self.spare, &self.older)?,
-            newer: copy_of_shared(alloc, &mut self.spare, &self.newer)?,
-            waiting: copy_of_some(alloc, &mut self.spare, &self.current)?,
+            older: copy_of_some(alloc, &mut self.spare, lent(&self.older))?,
+            newer: copy_of_some(alloc, &mut self.spare, lent(&self.newer))?,
+            waiting: copy_of_some(alloc, &mut self.spare, self.current.as_ref())?,
         })
     }
 

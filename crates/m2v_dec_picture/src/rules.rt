@@ -2,10 +2,9 @@ ghost use Rattle.std.specs.Prelude.{◌≡◌, ◌<◌, ◌+◌, ◌*◌, IfOk, 
 ghost use Rattle.std.specs.List.{list_all, range_with_len};
 ghost use Rattle.m2v_plane.specs.Fields.{lines_there as lines_there_of};
 ghost use Rattle.m2v_pred.specs.Inside.{is_inside};
-ghost use Rattle.m2v_macro.specs.Conditions.{IsMacro};
 ghost use Rattle.m2v_model.specs.Modes.{part_decoded as part_decoded_of, direction_decoded as direction_decoded_of, is_decoded as is_decoded_of, all_inside, references_decoded};
-ghost use Rattle.m2v_macroblock.specs.Modes.{skipped_mode as skipped_mode_of, mode_of};
-ghost use Rattle.m2v_dec_picture.specs.Conditions.{IsSetup, rows_in, place_in, IsColumn, IsGap, CanPaint};
+ghost use Rattle.m2v_macroblock.specs.Modes.{skipped_mode as skipped_mode_of};
+ghost use Rattle.m2v_dec_picture.specs.Conditions.{IsSetup, rows_in, place_in, IsLocated, CanPaint};
 ghost use Rattle.m2v_dec_picture.specs.Reads.{Breaks};
 
 use crate::gap::Gap;
@@ -135,10 +134,7 @@ fn both(one: bool, other: bool) -> bool
 fn are_inside(s: &SliceSetup, row: u32, before: &SliceState, x: &Located) -> bool
     requires setup { IsSetup s.now }
     requires row { row < rows_in s.now }
-    requires fits { IsMacro s.now.context before.now x.now.syntax }
-    requires mode { x.now.mode ≡ mode_of s.now.context x.now.syntax }
-    requires gap { IsGap s.now.context row before.now x.now.syntax x.now.gap }
-    requires column { IsColumn s.now.context row before.now x.now.syntax x.now.column }
+    requires located { IsLocated s.now.context row before.now x.now }
     ensures { result ≡ all_inside s.now before.now x.now.syntax }
 {
     let gap_inside = skipped_inside(s, row, x.gap, before);
@@ -163,9 +159,7 @@ fn gap_decoded(s: &SliceSetup, gap: Gap, before: &SliceState) -> bool
 #[tactic(auto, unfolding(m2v_model::specs::Modes::references_decoded))]
 fn are_decoded(s: &SliceSetup, row: u32, before: &SliceState, x: &Located) -> bool
     requires setup { IsSetup s.now }
-    requires fits { IsMacro s.now.context before.now x.now.syntax }
-    requires mode { x.now.mode ≡ mode_of s.now.context x.now.syntax }
-    requires gap { IsGap s.now.context row before.now x.now.syntax x.now.gap }
+    requires located { IsLocated s.now.context row before.now x.now }
     ensures { result ≡ references_decoded s.now before.now x.now.syntax }
 {
     let gap_decoded = gap_decoded(s, x.gap, before);
@@ -187,10 +181,7 @@ pub fn check(
 ) -> Result<(), Stop>
     requires setup { IsSetup s.now }
     requires row { row < rows_in s.now }
-    requires fits { IsMacro s.now.context before.now x.now.syntax }
-    requires mode { x.now.mode ≡ mode_of s.now.context x.now.syntax }
-    requires gap { IsGap s.now.context row before.now x.now.syntax x.now.gap }
-    requires column { IsColumn s.now.context row before.now x.now.syntax x.now.column }
+    requires located { IsLocated s.now.context row before.now x.now }
     ensures held { IfOk result (λ done. CanPaint s.now before.now x.now.syntax) }
     ensures broken { IfErr result (Breaks s.now before.now x.now.syntax left) }
 {

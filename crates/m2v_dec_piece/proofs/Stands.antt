@@ -33,25 +33,16 @@ pub last_stood : (h new : Held) (b : ℕ) (t : List ℕ) → IsLast h b new → 
 unfolding open_start
 last_stood h new b t l = rw (l.value) (l.ends.pieces t, rw (l.ahead, l.phase) (sym l.ends.place), l.ends.follows t)
 
--- why a byte isn't taken is an error of a cutter
-pub reading_stops : (start : ℕ) (pieces : List (List ℕ)) (e : DecodeError) → PieceStops start pieces e → IsReading e
-reading_stops start pieces errors.Read why = tt
-reading_stops start pieces errors.Memory why = tt
-reading_stops start pieces errors.TooLong why = tt
-reading_stops start pieces errors.PictureTooLarge why = tt
-reading_stops start pieces errors.Write why = why
-reading_stops start pieces (errors.Stream f) why = why
-
 -- ---- with the bytes that are read
 
--- what is wrong with a text that was read in part is wrong with it as it was
-pub stops_why : (start : ℕ) (pieces : List (List ℕ)) (e : DecodeError) → PieceStops start pieces e → Why start pieces e
-stops_why start pieces errors.Read why = tt
-stops_why start pieces errors.Memory why = tt
-stops_why start pieces errors.TooLong why = why
-stops_why start pieces errors.PictureTooLarge why = why
-stops_why start pieces errors.Write why = why
-stops_why start pieces (errors.Stream f) why = why
+-- what is wrong with a text that was read in part is wrong with it as it was, and is an error of a cutter
+pub stops_why : (start : ℕ) (pieces : List (List ℕ)) (e : DecodeError) → PieceStops start pieces e → Why start pieces e × IsReading e
+stops_why start pieces errors.Read why = absurd why
+stops_why start pieces errors.Memory why = (tt, tt)
+stops_why start pieces errors.TooLong why = (why, tt)
+stops_why start pieces errors.PictureTooLarge why = (why, tt)
+stops_why start pieces errors.Write why = absurd why
+stops_why start pieces (errors.Stream f) why = absurd why
 
 joined_text : (chunk filled bytes rest : List ℕ) → filled ≡ chunk ++ bytes → filled ++ rest ≡ chunk ++ (bytes ++ rest)
 joined_text chunk filled bytes rest e = ap (λ (x : List ℕ). x ++ rest) e ∙ append_assoc chunk bytes rest
@@ -61,7 +52,7 @@ pub filled_fails : (h : Held) (chunk filled : List ℕ) (left left' : Option (Li
 filled_fails h chunk filled left left' e r why = record {
   bytes = r.bytes;
   moved = r.moved;
-  why = λ rest told. subst (λ (t : List ℕ). Why (start_behind h t) (pieces_behind h t) e) (joined_text chunk filled r.bytes rest r.grown) (stops_why _ _ e (why rest));
+  why = λ rest told. subst (λ (t : List ℕ). Why (start_behind h t) (pieces_behind h t) e) (joined_text chunk filled r.bytes rest r.grown) (stops_why _ _ e (why rest)).0;
 }
 
 -- no text stops a byte by a failed source

@@ -14,6 +14,12 @@ use Rattle.m2v_dec_piece.specs.declared.cutter.Stand.{Stand}
 use Rattle.m2v_dec_piece.specs.declared.cutter.Stand.TheVariants.{Boundary, Ending, Over}
 use Rattle.m2v_dec_piece.specs.Cutting.{Held, taken_by, Fits, Took, FirstBegun, Ends, open_pieces, pieces_behind, start_behind, follows_behind, PieceStops, Cutting, left_of, start_of, follows_of, IsPiece}
 
+-- behind a whole prefix a value comes next, in this phase
+pub record AtValue (h : Held) (phase : Phase) : Type 0 where
+  pub fits : Fits h
+  pub ahead : h.ahead ≡ 3
+  pub phase_is : h.phase ≡ phase
+
 -- the piece at hand is whole, and stays as it is
 pub record IsWhole (old : Held) (b : ℕ) (new : Held) : Type 0 where
   pub same : new ≡ old

@@ -29,27 +29,6 @@ impl Model for Chunk {
         × (0 < length c.bytes.items) };
 }
 
-/// Reads into a buffer that isn't empty. Answers how many bytes were read, 0 at the end.
-#[tactic(auto, using(m2v_port::proofs::Runs::runs))]
-fn read_into<S: Source>(input: &mut S, buf: &mut [u8]) -> Result<usize, DecodeError>
-    requires { 0 < length buf.old }
-    ensures within { IfOk result (λ n. n ≤ length buf.old) }
-    ensures moved { IfOk result
-        (λ n. Moves (S.left input.old) (take n buf.new) (S.left input.new)) }
-    ensures end { result ≡ Ok 0 → IsAtEnd (S.left input.new) }
-    ensures err { OnErr result (S.left input.new ≡ S.left input.old) }
-    ensures failed { IsErrOf result DecodeError.Read
-        → Rose (S.faults input.old) (S.faults input.new) }
-    ensures only { IfErr result (λ e. (e ≡ DecodeError.Read) ⊎ (e ≡ DecodeError.Memory)) }
-    ensures faults { S.faults input.old ≤ S.faults input.new }
-{
-    match input.read(buf) {
-        Ok(n) => Ok(n),
-        Err(PortError::Failed) => Err(DecodeError::Read),
-        Err(PortError::Memory) => Err(DecodeError::Memory),
-    }
-}
-
 impl Chunk {
     /// No byte yet.
     pub fn new(alloc: Global) -> Result<Chunk, Memory>
@@ -93,6 +72,7 @@ impl Chunk {
     }
 
     /// Reads on where nothing is left. Answers how many bytes there are then, 0 at the end.
+    #[tactic(auto, using(m2v_port::proofs::Runs::runs))]
     fn refill<S: Source>(&mut self, input: &mut S) -> Result<usize, DecodeError>
         requires { self.old ≡ [] }
         ensures length { IfOk result (λ n. n ≡ length self.new) }
@@ -106,9 +86,14 @@ impl Chunk {
     {
         self.at = 0;
         self.filled = 0;
-        let n = read_into(input, &mut self.bytes)?;
-        self.filled = n;
-        Ok(n)
+        match input.read(&mut self.bytes) {
+            Ok(n) => {
+                self.filled = n;
+                Ok(n)
+            }
+            Err(PortError::Failed) => Err(DecodeError::Read),
+            Err(PortError::Memory) => Err(DecodeError::Memory),
+        }
     }
 
     /// Reads on where no byte is left. Answers whether there is one.

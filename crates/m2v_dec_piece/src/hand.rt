@@ -61,6 +61,17 @@ impl Model for Hand {
         × IsSliced h.slices (h.bytes.items ++ replicate h.zeros 0) h.ahead };
 }
 
+/// Lets a piece go for which memory ran out: nothing of it is held.
+fn let_go(bytes: &mut Vec<u8>, zeros: &mut u64, phase: &mut Phase)
+    ensures bytes { bytes.new.items ≡ [] }
+    ensures zeros { zeros.new ≡ 0 }
+    ensures phase { phase.new ≡ Phase.Headers }
+{
+    bytes.truncate(0);
+    *zeros = 0;
+    *phase = Phase::Headers;
+}
+
 /// Appends so many zero bytes, and a byte.
 fn append(bytes: &mut Vec<u8>, zeros: u64, b: u8) -> Result<(), Memory>
     requires { length bytes.old.items + zeros ≤ 2 ^ 36 }
@@ -187,9 +198,7 @@ impl Hand {
             return Err(DecodeError::PictureTooLarge);
         }
         let Ok(()) = append(&mut self.bytes, self.zeros, b) else {
-            self.bytes.truncate(0);
-            self.zeros = 0;
-            self.phase = Phase::Headers;
+            let_go(&mut self.bytes, &mut self.zeros, &mut self.phase);
             return Err(DecodeError::Memory);
         };
         self.zeros = 0;
@@ -240,9 +249,7 @@ impl Hand {
         ensures err { IfErr result (λ e. e ≡ DecodeError.Memory) }
     {
         let Ok(()) = append_all(&mut self.bytes, self.zeros, run) else {
-            self.bytes.truncate(0);
-            self.zeros = 0;
-            self.phase = Phase::Headers;
+            let_go(&mut self.bytes, &mut self.zeros, &mut self.phase);
             return Err(DecodeError::Memory);
         };
         self.zeros = 0;

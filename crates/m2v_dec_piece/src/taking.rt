@@ -1,7 +1,7 @@
 ghost use Rattle.std.specs.Prelude.{◌≡◌, ◌<◌, IfOk, IfErr, Ok, Err};
 ghost use Rattle.m2v_model.specs.Pieces.{begins_piece};
 ghost use Rattle.m2v_dec_piece.specs.Cutting.{Fits, StopsAt};
-ghost use Rattle.m2v_dec_piece.specs.Stepping.{Takes};
+ghost use Rattle.m2v_dec_piece.specs.Stepping.{AtValue, Takes};
 
 use crate::DecodeError;
 use crate::hand::Hand;
@@ -30,9 +30,7 @@ fn is_begin(value: u8) -> bool
 
 /// The value of a unit before the first sequence header.
 fn before(hand: &mut Hand, value: u8) -> Result<Byte, DecodeError>
-    requires fits { Fits hand.old }
-    requires ahead { hand.old.ahead ≡ 3 }
-    requires phase { hand.old.phase ≡ Phase.Before }
+    requires at { AtValue hand.old Phase.Before }
     ensures ok { IfOk result (λ b. Takes b hand.old value hand.new) }
     ensures err { IfErr result (StopsAt hand.old value) }
 {
@@ -49,9 +47,7 @@ fn before(hand: &mut Hand, value: u8) -> Result<Byte, DecodeError>
 /// The value of a unit among header units.
 #[tactic(auto, unfolding(m2v_model::specs::Pieces::is_end))]
 fn headers(hand: &mut Hand, value: u8) -> Result<Byte, DecodeError>
-    requires fits { Fits hand.old }
-    requires ahead { hand.old.ahead ≡ 3 }
-    requires phase { hand.old.phase ≡ Phase.Headers }
+    requires at { AtValue hand.old Phase.Headers }
     ensures ok { IfOk result (λ b. Takes b hand.old value hand.new) }
     ensures err { IfErr result (StopsAt hand.old value) }
 {
@@ -69,9 +65,7 @@ fn headers(hand: &mut Hand, value: u8) -> Result<Byte, DecodeError>
 
 /// The value of a unit behind a picture.
 fn picture(hand: &mut Hand, value: u8) -> Result<Byte, DecodeError>
-    requires fits { Fits hand.old }
-    requires ahead { hand.old.ahead ≡ 3 }
-    requires phase { hand.old.phase ≡ Phase.Picture }
+    requires at { AtValue hand.old Phase.Picture }
     ensures ok { IfOk result (λ b. Takes b hand.old value hand.new) }
     ensures err { IfErr result (StopsAt hand.old value) }
 {

@@ -40,23 +40,18 @@ unit_same z None (u ∷ us) = refl
 extension_fits : (e : SequenceExtension) (t rest : List Bool) → head.sequence_extension_at.Stands e t rest → SequenceExtensionFits e
 unfolding head.sequence_extension_at head.chroma_format_at seq here rule done bits_at
 extension_fits e t rest st =
-    let profile = st.3 in
-    let format = profile.3.3 in
-    let horizontal = format.3 in
-    let vertical = horizontal.3 in
-    let rate = vertical.3 in
-    let vbv = rate.3.3 in
-    let n = vbv.3.3 in
-    let d = n.3 in
-    subst SequenceExtensionFits (sym d.3.0) (record {
-      profile_and_level = profile.2.0;
+    let format = st.3.3.3 in
+    let rate = format.3.3.3 in
+    let n = rate.3.3.3.3 in
+    subst SequenceExtensionFits (sym n.3.3.0) (record {
+      profile_and_level = st.3.2.0;
       chroma_format = format.2.3.3.3.3.0 ∙ eqb-true format.2.3.0 1 format.2.3.3.3.2.0;
-      horizontal_ext = horizontal.2.0;
-      vertical_ext = vertical.2.0;
+      horizontal_ext = format.3.2.0;
+      vertical_ext = format.3.3.2.0;
       bit_rate_ext = rate.2.0;
-      vbv_ext = vbv.2.0;
+      vbv_ext = rate.3.3.2.0;
       rate_n = n.2.0;
-      rate_d = d.2.0;
+      rate_d = n.3.2.0;
     })
 
 header_size : (info : SequenceInfo) (e : SequenceExtension) (t end : List Bool) → (sequence_extension_in info).read t ≡ good (e, end) → (sequence_extension_in info).Stands e t end → IsReadSequence info e

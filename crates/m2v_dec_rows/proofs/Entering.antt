@@ -1,8 +1,6 @@
 -- The picture of a piece whose slices are read: what leads to it, and the state in which its headers stop.
 use Rattle.std.proofs.Common.{◌≡◌, ℕ, Bool, true, false, List, Option, Some, None, inl, inr, sym, ap, subst, ◌∙◌}
 use Rattle.std.proofs.lemmas.Bool.{both_ways}
-use Rattle.m2v_head.specs.declared.picture.PictureInfo.{PictureInfo}
-use Rattle.m2v_head.specs.declared.picture.PictureExtension.{PictureExtension}
 use Rattle.m2v_model.specs.declared.fault.FaultKind.{FaultKind}
 use Rattle.m2v_model.specs.declared.state.Sequence.{Sequence}
 use Rattle.m2v_model.specs.declared.state.Open.{Open}
@@ -19,19 +17,16 @@ use Rattle.m2v_dec_rows.specs.OnePicture.{HasOnePicture}
 use Rattle.m2v_dec_rows.specs.Halves.{ReadsNone}
 use Rattle.m2v_dec_rows.proofs.Behind.{skim_at}
 use Rattle.m2v_dec_rows.proofs.Before.{shut}
-use Rattle.m2v_dec_rows.proofs.Later.{reached, loaded, rest}
-use Rattle.m2v_dec_rows.proofs.UpToPicture.{HasSize, Leads, Either, either}
+use Rattle.m2v_dec_rows.proofs.Later.{reached, loaded, Skimmed, rest}
+use Rattle.m2v_dec_rows.proofs.UpToPicture.{HasSize, Headed, Leads, Either, either}
 use Rattle.m2v_dec_rows.proofs.WholePieces.{has_size, sequence_is}
 
 -- headers lead to a picture in a sequence, and reading its headers stops in a state
 pub record Enters (w final : State) (s : Sequence) : Type 0 where
-  pub before : State
-  pub info : PictureInfo
-  pub extension : PictureExtension
-  pub intra : List ℕ
-  pub non_intra : List ℕ
-  pub has_slice : Bool
-  pub row : ℕ
+  pub headed : Headed
+  pub open headed use *
+  pub at : Skimmed
+  pub open at use *
   pub leads : Leads w before
   pub known : before.sequence ≡ Some s
   pub due : is_second_field_due before.waiting info extension ≡ true
@@ -46,13 +41,8 @@ enters_by w store end us parts fault st r (inr a) s o in_force is_open kept =
     let final = a.final_is ∙ h.final_is in
     let same = sequence_is a.s s (sym (ap (λ (x : State). x.sequence) final) ∙ in_force) in
     record {
-      before = a.before;
-      info = a.info;
-      extension = a.extension;
-      intra = h.intra;
-      non_intra = h.non_intra;
-      has_slice = h.has_slice;
-      row = h.row;
+      headed = a.headed;
+      at = h.at;
       leads = a.leads;
       known = a.known ∙ ap Some same;
       due = a.due;

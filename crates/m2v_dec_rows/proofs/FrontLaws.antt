@@ -50,29 +50,22 @@ rows_kept st (headers.Matrices m) u us a = a
 rows_kept st headers.Skipped u us a = a
 rows_kept st headers.Ending u us a = tt
 
-header_onward : (st : State) (h : Header) (u : List ℕ) (ps : List Part) → goes_on h ≡ true → stopped_from st (part_of u h ∷ ps) ≡ stopped_from (after st (part_of u h)) ps
-unfolding stopped_from
-header_onward st (headers.Sequence s) u ps on = refl
-header_onward st (headers.Group g) u ps on = refl
-header_onward st (headers.Picture info extension) u ps on = refl
-header_onward st (headers.Matrices m) u ps on = refl
-header_onward st headers.Skipped u ps on = refl
-header_onward st headers.Ending u ps on = absurd cc
-
-header_slices : (p : Piece) (h : Header) (u : List ℕ) (us : List SliceUnit) (rest : Units) → map (unread p) (kept_behind h us) ≡ with_part (end_of p) (map (unread p) us) (part_of u h) rest
-unfolding with_part
-header_slices p (headers.Sequence s) u us rest = refl
-header_slices p (headers.Group g) u us rest = refl
-header_slices p (headers.Picture info extension) u us rest = refl
-header_slices p (headers.Matrices m) u us rest = refl
-header_slices p headers.Skipped u us rest = refl
-header_slices p headers.Ending u us rest = refl
+-- behind a header others follow, and the slices are those that it keeps
+header_passes : (p : Piece) (st : State) (h : Header) (u : List ℕ) (us : List SliceUnit) (rest : Units) → goes_on h ≡ true
+    → ((ps : List Part) → stopped_from st (part_of u h ∷ ps) ≡ stopped_from (after st (part_of u h)) ps) × (map (unread p) (kept_behind h us) ≡ with_part (end_of p) (map (unread p) us) (part_of u h) rest)
+unfolding stopped_from with_part
+header_passes p st (headers.Sequence s) u us rest on = (λ ps. refl, refl)
+header_passes p st (headers.Group g) u us rest on = (λ ps. refl, refl)
+header_passes p st (headers.Picture info extension) u us rest on = (λ ps. refl, refl)
+header_passes p st (headers.Matrices m) u us rest on = (λ ps. refl, refl)
+header_passes p st headers.Skipped u us rest on = (λ ps. refl, refl)
+header_passes p st headers.Ending u us rest on = absurd cc
 
 pub passed_header : (p : Piece) (old new : Skim) (h : Header) (u : List ℕ) (rest : Units) → IsSoundSkim p old → goes_on h ≡ true → Entered old h u new → Passed p old (part_of u h) rest new
 passed_header p old new h u rest sound on e = record {
   state = e.state;
-  onward = λ ps. header_onward old.state h u ps on;
-  slices = ap (map (unread p)) e.slices ∙ header_slices p h u old.slices.items rest;
+  onward = (header_passes p old.state h u old.slices.items rest on).0;
+  slices = ap (map (unread p)) e.slices ∙ (header_passes p old.state h u old.slices.items rest on).1;
   sound = record {
     state = e.sound;
     slices = subst (All (StandsIn p)) (sym e.slices) (stands_kept p h old.slices.items sound.slices);

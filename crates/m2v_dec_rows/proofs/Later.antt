@@ -38,13 +38,22 @@ loaded z intra non_intra = record z { intra = intra; non_intra = non_intra }
 abbrev pub reached : Open → Bool → ℕ → Open
 reached o has_slice row = record o { has_slice = has_slice; row = row }
 
--- What reading on gives, from an open picture on: the state where it stops, the slices, and what is told of the same
--- units as a whole.
-pub record Rest (z : State) (s : Sequence) (o : Open) (store : Store) (end : ℕ) (us : Units) (parts : List Part) (fault : Option (FaultKind × ℕ)) (st : State) (r : FrontRead st us parts fault) : Type 0 where
+-- the matrices in force where reading stops, and how far the picture's slices were passed over
+pub record Skimmed : Type 0 where
   pub intra : List ℕ
   pub non_intra : List ℕ
   pub has_slice : Bool
   pub row : ℕ
+
+-- no unit was passed over
+abbrev unmoved : State → Open → Skimmed
+unmoved z o = record { intra = z.intra; non_intra = z.non_intra; has_slice = o.has_slice; row = o.row }
+
+-- What reading on gives, from an open picture on: the state where it stops, the slices, and what is told of the same
+-- units as a whole.
+pub record Rest (z : State) (s : Sequence) (o : Open) (store : Store) (end : ℕ) (us : Units) (parts : List Part) (fault : Option (FaultKind × ℕ)) (st : State) (r : FrontRead st us parts fault) : Type 0 where
+  pub at : Skimmed
+  pub open at use *
   pub final_is : stopped_from st parts ≡ skim_at (loaded z intra non_intra) s (reached o has_slice row)
   -- no matrices are loaded behind a slice
   pub kept : o.has_slice ≡ true → (intra ≡ z.intra) × (non_intra ≡ z.non_intra)
@@ -68,10 +77,7 @@ none_behind (u ∷ us) mid n e = subst NoneBegins (sym e) n.1
 fault_rest : (z : State) (s : Sequence) (o : Open) (store : Store) (end : ℕ) (us : Units) (f : FaultKind × ℕ) (e : unit_read (skim_at z s o) us ≡ Err f) → NoneBegins us → Rest z s o store end us [] (Some f) (skim_at z s o) (faulty e)
 unfolding stopped_from slices_by slices_read
 fault_rest z s o store end us f e n = record {
-  intra = z.intra;
-  non_intra = z.non_intra;
-  has_slice = o.has_slice;
-  row = o.row;
+  at = unmoved z o;
   final_is = refl;
   kept = λ has. (refl, refl);
   are = λ now. sym (append-nil now);
@@ -83,10 +89,7 @@ over_rest : (z : State) (s : Sequence) (o : Open) (store : Store) (end : ℕ) (u
     → Rest z s o store end us (over ∷ []) None (skim_at z s o) (final_unit e)
 unfolding stopped_from slices_by slices_read
 over_rest z s o store end us rest e unread n = record {
-  intra = z.intra;
-  non_intra = z.non_intra;
-  has_slice = o.has_slice;
-  row = o.row;
+  at = unmoved z o;
   final_is = refl;
   kept = λ has. (refl, refl);
   are = λ now. sym (append-nil now);
@@ -109,10 +112,7 @@ unfolding after stopped_from slices_by with_part
 matrices_rest z s o store end us mid m ps fault e later n h =
     let a = alike_at z s o us (Ok ((true, matrices m), mid)) n e in
     record {
-      intra = h.intra;
-      non_intra = h.non_intra;
-      has_slice = h.has_slice;
-      row = h.row;
+      at = h.at;
       final_is = h.final_is;
       kept = λ has. absurd (both_ways _ a.2 has);
       are = h.are;
@@ -133,10 +133,7 @@ unfolding after stopped_from slices_by with_part
 skipped_rest z s o store end us mid u ps fault e later n h =
     let a = alike_at z s o us (Ok ((true, skipped_unit u), mid)) n e in
     record {
-      intra = h.intra;
-      non_intra = h.non_intra;
-      has_slice = h.has_slice;
-      row = h.row;
+      at = h.at;
       final_is = h.final_is;
       kept = h.kept;
       are = h.are;
@@ -262,10 +259,7 @@ slice_rest z s o store end us mid row u ps fault e later unread n h =
     let vs = slices_by end [] later in
     let all : v ∷ vs ≡ slices_by end (v ∷ []) later = sym (first.are (v ∷ [])) in
     record {
-      intra = z.intra;
-      non_intra = z.non_intra;
-      has_slice = first.has_slice;
-      row = first.row;
+      at = unmoved z (reached o first.has_slice first.row);
       final_is = first.final_is;
       kept = λ has. (refl, refl);
       are = λ now. first.are (now ++ v ∷ []) ∙ append_assoc now (v ∷ []) vs ∙ ap (λ (l : Slices). now ++ l) all;

@@ -5,6 +5,8 @@ use Rattle.std.specs.Bool.{beq}
 use Rattle.std.proofs.lemmas.Bool.{and_parts, eqb-true}
 use Rattle.m2v_plane.specs.declared.dims.Dims.{Dims}
 use Rattle.m2v_plane.specs.Sizes.{IsSize}
+use Rattle.m2v_head.specs.declared.picture.PictureInfo.{PictureInfo}
+use Rattle.m2v_head.specs.declared.picture.PictureExtension.{PictureExtension}
 use Rattle.m2v_model.specs.declared.state.Sequence.{Sequence}
 use Rattle.m2v_model.specs.declared.state.Open.{Open}
 use Rattle.m2v_model.specs.declared.state.State.{State}
@@ -12,8 +14,8 @@ use Rattle.m2v_model.specs.States.{width_of, height_of, dims_of, drops, opened, 
 use Rattle.m2v_model.specs.Streams.{after}
 use Rattle.m2v_dec_unit.specs.declared.header.Header.{Header}
 use Rattle.m2v_dec_unit.specs.declared.header.Header.TheVariants as headers
-use Rattle.m2v_dec_unit.specs.Among.{AreMatrices, HeaderFits, HeaderFollows, part_of}
-use Rattle.m2v_dec_rows.specs.Headers.{HaveOneSize, IsBetween}
+use Rattle.m2v_dec_unit.specs.Among.{AreMatrices, HeaderFits, HeaderFollows, goes_on, part_of}
+use Rattle.m2v_dec_rows.specs.Headers.{HaveOneSize, AreHeaders, IsBetween}
 use Rattle.m2v_dec_rows.specs.Skims.{FitsOpen, IsSoundState}
 
 -- ---- sizes
@@ -56,19 +58,31 @@ open_behind : (st : State) (q : Option Sequence) (p : Open) → is_some q ≡ tr
 open_behind st (Some s) p some fits unread = (fits, unread)
 open_behind st None p some fits unread = absurd cc
 
-pub sound_behind : (st : State) (h : Header) (u : List ℕ) → IsSoundState st → HeaderFits h → HeaderFollows st h → AreMatrices (after st (part_of u h)) → IsSoundState (after st (part_of u h))
+-- behind a header they are those that it says, where what fits an open picture is known of one that begins
+pub headers_behind : (passes : Bool) (Fits : Option Sequence → Option Open → Type 0) (st : State) (h : Header) (u : List ℕ) → ((q : Option Sequence) → Fits q None)
+    → ((info : PictureInfo) (extension : PictureExtension) → HeaderFits (headers.Picture info extension) → HeaderFollows st (headers.Picture info extension) → Fits st.sequence (Some (opened st info extension)))
+    → AreHeaders passes Fits st → HeaderFits h → HeaderFollows st h → AreMatrices (after st (part_of u h)) → AreHeaders passes Fits (after st (part_of u h))
 unfolding after
-sound_behind st (headers.Sequence s) u sound fits follows matrices = record { headers_only = sound.headers_only; matrices = matrices; size = size_next st.first st.sequence s sound.size fits.1.size follows; fits = tt }
-sound_behind st (headers.Group g) u sound fits follows matrices = record { headers_only = sound.headers_only; matrices = matrices; size = sound.size; fits = tt }
-sound_behind st (headers.Picture info extension) u sound fits follows matrices = record {
-  headers_only = sound.headers_only;
-  matrices = matrices;
-  size = sound.size;
-  fits = open_behind st st.sequence (opened st info extension) follows.0 fits (ap (λ (b : Bool). b || drops st info.kind) sound.headers_only);
-}
-sound_behind st (headers.Matrices m) u sound fits follows matrices = record { headers_only = sound.headers_only; matrices = matrices; size = sound.size; fits = sound.fits }
-sound_behind st headers.Skipped u sound fits follows matrices = sound
-sound_behind st headers.Ending u sound fits follows matrices = record { headers_only = sound.headers_only; matrices = matrices; size = sound.size; fits = tt }
+headers_behind passes Fits st (headers.Sequence s) u none begins sound fits follows matrices = record { headers_only = sound.headers_only; matrices = matrices; size = size_next st.first st.sequence s sound.size fits.1.size follows; fits = none _ }
+headers_behind passes Fits st (headers.Group g) u none begins sound fits follows matrices = record { headers_only = sound.headers_only; matrices = matrices; size = sound.size; fits = none _ }
+headers_behind passes Fits st (headers.Picture info extension) u none begins sound fits follows matrices = record { headers_only = sound.headers_only; matrices = matrices; size = sound.size; fits = begins info extension fits follows }
+headers_behind passes Fits st (headers.Matrices m) u none begins sound fits follows matrices = record { headers_only = sound.headers_only; matrices = matrices; size = sound.size; fits = sound.fits }
+headers_behind passes Fits st headers.Skipped u none begins sound fits follows matrices = sound
+headers_behind passes Fits st headers.Ending u none begins sound fits follows matrices = record { headers_only = sound.headers_only; matrices = matrices; size = sound.size; fits = none _ }
+
+pub sound_behind : (st : State) (h : Header) (u : List ℕ) → IsSoundState st → HeaderFits h → HeaderFollows st h → AreMatrices (after st (part_of u h)) → IsSoundState (after st (part_of u h))
+sound_behind st h u sound = headers_behind true FitsOpen st h u (λ q. tt)
+    (λ info extension fits follows. open_behind st st.sequence (opened st info extension) follows.0 fits (ap (λ (b : Bool). b || drops st info.kind) sound.headers_only)) sound
+
+-- behind the sequence end code no picture is open
+pub closed_behind : (st : State) (u : List ℕ) (h : Header) → goes_on h ≡ false → (after st (part_of u h)).picture ≡ None
+unfolding after
+closed_behind st u (headers.Sequence s) e = absurd cc
+closed_behind st u (headers.Group g) e = absurd cc
+closed_behind st u (headers.Picture info extension) e = absurd cc
+closed_behind st u (headers.Matrices m) e = absurd cc
+closed_behind st u headers.Skipped e = absurd cc
+closed_behind st u headers.Ending e = refl
 
 -- a header was put in force
 pub entered : (old mid now : State) (h : Header) → mid ≡ old → ((u : List ℕ) → now ≡ after mid (part_of u h)) → (HeaderFits h → AreMatrices mid → AreMatrices now) → HeaderFits h → HeaderFollows old h → IsSoundState old → IsSoundState now

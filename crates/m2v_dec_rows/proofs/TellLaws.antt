@@ -56,8 +56,8 @@ tells_open st p c fault o now s x is =
         setup = told.setup ∙ ap (λ (y : State). slice_setup y x.sequence x.picture) s.state;
         rows = told.rows;
         low_delay = told.low_delay ∙ ap (λ (y : State). low_delay_of y.first) s.state;
-        slices = ap (λ v. map (unread p) v.items) told.slices ∙ s.slices;
-        fault = ap as_placed told.fault_is ∙ s.fault_is;
+        slices_are = ap (λ v. map (unread p) v.items) told.slices ∙ s.slices;
+        fault_is = ap as_placed told.fault_is ∙ s.fault_is;
       },
       is ∙ ap after_end s.state,
     )

@@ -98,6 +98,11 @@ due_gives : (st : State) (start : ℕ) → Gives Any (no_second_field_due st sta
 unfolding no_second_field_due
 due_gives st start = rule_gives _ _ start
 
+-- no picture is left open, and no first field waits
+shut_gives : {B : Type 0} (P : B → Type 0) (st : State) (start : ℕ) (k : Unit {0} → Unit {0} → Among B) → ((closed due : Unit {0}) → Gives P (k closed due))
+    → Gives P (seq (close st start) (λ closed. seq (no_second_field_due st start) (λ due. k closed due)))
+shut_gives P st start k h = then_gives P (close_gives st start) (λ closed. then_gives P (due_gives st start) (λ due. h closed due))
+
 id_gives : (u : List ℕ) → Gives Any (id_at u)
 unfolding id_at
 id_gives u = inside_any u _
@@ -154,24 +159,20 @@ delay_in info t end x =
 sequence_gives : (st : State) (v : Option ℕ) (start : ℕ) (u : List ℕ) → v ≡ Some 0xB3 → Gives (PartFits st v) (sequence_unit st start u)
 unfolding sequence_unit
 sequence_gives st v start u e =
-    let P = PartFits st v in
-    then_gives P (close_gives st start) (λ closed.
-    then_gives P (due_gives st start) (λ due.
-    then_gives P (inside_any u _) (λ info.
-    then_gives P (here_gives unit_bits) (λ next.
-    then_gives P unit_gives (λ w.
-    then_gives P (behind_gives _ w next _) (λ extension.
-    then_gives P (rule_gives _ _ start) (λ same.
-    done_gives P (sequence (record { info = info; extension = extension })) e)))))))
+    shut_gives (PartFits st v) st start _ (λ closed due.
+    then_gives _ (inside_any u _) (λ info.
+    then_gives _ (here_gives unit_bits) (λ next.
+    then_gives _ unit_gives (λ w.
+    then_gives _ (behind_gives _ w next _) (λ extension.
+    then_gives _ (rule_gives _ _ start) (λ same.
+    done_gives _ (sequence (record { info = info; extension = extension })) e))))))
 
 group_gives : (st : State) (v : Option ℕ) (start : ℕ) (u : List ℕ) → v ≡ Some 0xB8 → Gives (PartFits st v) (group_unit st start u)
 unfolding group_unit
 group_gives st v start u e =
-    let P = PartFits st v in
-    then_gives P (close_gives st start) (λ closed.
-    then_gives P (due_gives st start) (λ due.
-    then_gives P (inside_any u _) (λ g.
-    done_gives P (group g) e)))
+    shut_gives (PartFits st v) st start _ (λ closed due.
+    then_gives _ (inside_any u _) (λ g.
+    done_gives _ (group g) e))
 
 picture_gives : (st : State) (v : Option ℕ) (start : ℕ) (u : List ℕ) → v ≡ Some 0x00 → IsKnown st → Gives (PartFits st v) (picture_unit st start u)
 unfolding picture_unit
@@ -223,10 +224,7 @@ slice_gives st v None p row start u = refuse_gives (PartFits st v) _ start
 
 end_gives : (st : State) (start : ℕ) → Gives IsLast (end_unit st start)
 unfolding end_unit
-end_gives st start =
-    then_gives IsLast (close_gives st start) (λ closed.
-    then_gives IsLast (due_gives st start) (λ due.
-    done_gives IsLast ending tt))
+end_gives st start = shut_gives IsLast st start _ (λ closed due. done_gives IsLast ending tt)
 
 onward_gives : (st : State) (v : Option ℕ) (s : Among Part) → Gives (PartFits st v) s → Gives (UnitFits st v) (onward s)
 unfolding onward

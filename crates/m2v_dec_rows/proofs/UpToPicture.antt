@@ -46,11 +46,14 @@ pub data Leads : State → State → Type 0 where
   by_sequence : {w v : State} (s : Sequence) → IsSize (dims_of s) → is_same_sequence w.first s ≡ true → Leads (after_sequence w s) v → Leads w v
   by_group : {w v : State} (g : GroupInfo) → none_waits w.waiting ≡ true → Leads (after_group w g) v → Leads w v
 
--- A picture opens whose slices are read: what is told of all units is told of those behind its headers, with headers
--- before.
-pub record Opens (w : State) (store : Store) (end : ℕ) (us : Units) (parts : List Part) (fault : Option (FaultKind × ℕ)) (st : State) (r : FrontRead st us parts fault) : Type 0 where
-  pub es : Events
-  pub no_pictures : pictures_in es ≡ []
+-- the headers of a picture, and the state before them
+pub record Headed : Type 0 where
+  pub before : State
+  pub info : PictureInfo
+  pub extension : PictureExtension
+
+-- a picture whose slices are read is open behind its headers, in a sequence, and reading goes on
+pub record Opening (fault : Option (FaultKind × ℕ)) : Type 0 where
   pub z : State
   pub s : Sequence
   pub o : Open
@@ -58,11 +61,8 @@ pub record Opens (w : State) (store : Store) (end : ℕ) (us : Units) (parts : L
   pub later_parts : List Part
   pub later : FrontRead (skim_at z s o) mid later_parts fault
   pub begins : NoneBegins mid
-  -- headers lead to the picture's own, behind which it is open
-  pub before : State
-  pub info : PictureInfo
-  pub extension : PictureExtension
-  pub leads : Leads w before
+  pub headed : Headed
+  pub open headed use *
   pub known : before.sequence ≡ Some s
   pub due : is_second_field_due before.waiting info extension ≡ true
   pub is_open : o ≡ opened before info extension
@@ -72,6 +72,16 @@ pub record Opens (w : State) (store : Store) (end : ℕ) (us : Units) (parts : L
   pub covered : o.covered ≡ 0
   pub row : o.row ≡ 0
   pub size : IsSize (dims_of s)
+
+-- A picture opens whose slices are read: what is told of all units is told of those behind its headers, with headers
+-- before.
+pub record Opens (w : State) (store : Store) (end : ℕ) (us : Units) (parts : List Part) (fault : Option (FaultKind × ℕ)) (st : State) (r : FrontRead st us parts fault) : Type 0 where
+  pub es : Events
+  pub no_pictures : pictures_in es ≡ []
+  pub at : Opening fault
+  pub open at use *
+  -- headers lead to the picture's own
+  pub leads : Leads w before
   pub told : units_read (record { state = w; store = store }) us ≡ behind es (units_read (at_open z s o (picture_begun (Some s) o store)) mid)
   pub final_is : stopped_from st parts ≡ stopped_from (skim_at z s o) later_parts
   pub are : (now : Slices) → slices_by end now r ≡ slices_by end [] later
@@ -125,26 +135,8 @@ opens_on w w2 store end us mid p ps fault st st2 r later e next passed stops are
     inr (record {
       es = es ++ a.es;
       no_pictures = passed a.es ∙ a.no_pictures;
-      z = a.z;
-      s = a.s;
-      o = a.o;
-      mid = a.mid;
-      later_parts = a.later_parts;
-      later = a.later;
-      begins = a.begins;
-      before = a.before;
-      info = a.info;
-      extension = a.extension;
+      at = a.at;
       leads = lead a.before a.leads;
-      known = a.known;
-      due = a.due;
-      is_open = a.is_open;
-      is_behind = a.is_behind;
-      read = a.read;
-      kept = a.kept;
-      covered = a.covered;
-      row = a.row;
-      size = a.size;
       told = read_more b us mid true p e refl ∙ ap (λ (x : Between). behind es (units_read x mid)) next ∙ ap (behind es) a.told ∙ sym (behind_twice es a.es last);
       final_is = stops ∙ a.final_is;
       are = λ now. are now ∙ a.are now;
@@ -193,26 +185,26 @@ picture_opens z s store end us mid info extension ps fault e later n size due =
       | inr off ↦ inr (record {
         es = [];
         no_pictures = refl;
-        z = z2;
-        s = s;
-        o = o;
-        mid = mid;
-        later_parts = ps;
-        later = later;
-        begins = n;
-        before = w;
-        info = info;
-        extension = extension;
+        at = record {
+          z = z2;
+          s = s;
+          o = o;
+          mid = mid;
+          later_parts = ps;
+          later = later;
+          begins = n;
+          headed = record { before = w; info = info; extension = extension };
+          known = refl;
+          due = due;
+          is_open = refl;
+          is_behind = refl;
+          read = off;
+          kept = off;
+          covered = refl;
+          row = refl;
+          size = size;
+        };
         leads = here;
-        known = refl;
-        due = due;
-        is_open = refl;
-        is_behind = refl;
-        read = off;
-        kept = off;
-        covered = refl;
-        row = refl;
-        size = size;
         told = read_more b us mid true (picture info extension) read refl;
         final_is = refl;
         are = λ now. refl;

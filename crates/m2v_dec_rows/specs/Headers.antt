@@ -1,5 +1,5 @@
 -- What the headers of a piece say of its picture, whose slices stay unread.
-use Rattle.std.specs.Prelude.{◌≡◌, ℕ, ◌+◌, ◌-◌, ◌*◌, ◌/◌, not, List, [], ◌∷◌, ◌++◌, Option, Some, None, Result, Ok, Err}
+use Rattle.std.specs.Prelude.{◌≡◌, ℕ, ◌+◌, ◌-◌, ◌*◌, ◌/◌, not, List, [], ◌∷◌, ◌++◌, Bool, Option, Some, None, Result, Ok, Err}
 use Rattle.m2v_plane.specs.Sizes.{IsSize}
 use Rattle.m2v_model.specs.declared.fault.FaultKind.{FaultKind}
 use Rattle.m2v_model.specs.declared.state.Sequence.{Sequence}
@@ -72,18 +72,22 @@ open_note code_end p = record {
   crowded = 0;
 }
 
--- the picture that is open where reading stops
-pub record IsOpenedBy {st : State} (p : Piece) (f : Front st p) (o : Opened) : Type 0 where
+-- the picture that is open in a state, with its slices and the fault behind them
+pub record IsOpenedIn (p : Piece) (st : State) (slices : Slices) (fault : Option (FaultKind × ℕ)) (o : Opened) : Type 0 where
   pub sequence : Sequence
   pub picture : Open
-  pub in_force : (stopped f).sequence ≡ Some sequence
-  pub is_open : (stopped f).picture ≡ Some picture
+  pub in_force : st.sequence ≡ Some sequence
+  pub is_open : st.picture ≡ Some picture
   pub note : o.note ≡ open_note (8 * p.place + code_bits (whole_of p)) picture
-  pub setup : setup_of o ≡ slice_setup (stopped f) sequence picture
+  pub setup : setup_of o ≡ slice_setup st sequence picture
   pub rows : o.rows ≡ picture_rows sequence picture
-  pub low_delay : o.low_delay ≡ low_delay_of (stopped f).first
-  pub slices : slices_of p o ≡ slices_by (end_of p) [] f.read
-  pub fault : as_placed o.fault ≡ fault_at (end_of p) f.fault
+  pub low_delay : o.low_delay ≡ low_delay_of st.first
+  pub slices_are : slices_of p o ≡ slices
+  pub fault_is : as_placed o.fault ≡ fault_at (end_of p) fault
+
+-- the picture that is open where reading stops
+abbrev pub IsOpenedBy : {st : State} (p : Piece) → Front st p → Opened → Type 0
+IsOpenedBy p f o = IsOpenedIn p (stopped f) (slices_by (end_of p) [] f.read) f.fault o
 
 -- what reading the headers of a piece answers: the picture in it; none, without a fault; or a fault, and no picture
 -- before it
@@ -104,6 +108,13 @@ abbrev pub HaveOneSize : Option Sequence → Option Sequence → Type 0
 HaveOneSize (Some first) (Some s) = IsSize (dims_of s) × (dims_of first ≡ dims_of s)
 HaveOneSize None None = Unit {0}
 HaveOneSize first s = ⊥
+
+-- the headers in force of a reader that passes over slices or doesn't, with what fits the picture that is open
+pub record AreHeaders (passes : Bool) (Fits : Option Sequence → Option Open → Type 0) (st : State) : Type 0 where
+  pub headers_only : st.headers_only ≡ passes
+  pub matrices : AreMatrices st
+  pub size : HaveOneSize st.first st.sequence
+  pub fits : Fits st.sequence st.picture
 
 pub record IsBetween (st : State) : Type 0 where
   pub closed : st.picture ≡ None

@@ -15,7 +15,7 @@ use Rattle.m2v_dec_piece.specs.declared.answer.Piece.{Piece}
 use Rattle.m2v_dec_piece.specs.declared.answer.Fault.{Fault}
 use Rattle.m2v_dec_unit.specs.declared.header.Header.{Header}
 use Rattle.m2v_dec_unit.specs.declared.header.Header.TheVariants as headers
-use Rattle.m2v_dec_unit.specs.Among.{AreMatrices, HeaderFits, part_of}
+use Rattle.m2v_dec_unit.specs.Among.{HeaderFits, part_of}
 use Rattle.m2v_dec_rows.specs.declared.opened.SliceUnit.{SliceUnit}
 use Rattle.m2v_dec_rows.specs.declared.opened.Opened.{Opened}
 use Rattle.m2v_dec_rows.specs.Rows.{Slices}
@@ -24,7 +24,7 @@ use Rattle.m2v_dec_rows.specs.Reads.{as_placed}
 use Rattle.m2v_dec_rows.specs.declared.skim.Round.{Round}
 use Rattle.m2v_dec_rows.specs.declared.skim.Round.TheVariants.{More, Last, Broken}
 use Rattle.m2v_dec_rows.specs.declared.skim.Skim.{Skim}
-use Rattle.m2v_dec_rows.specs.Headers.{Front, stopped, stopped_from, with_part, slices_by, fault_at, end_of, open_note, HaveOneSize}
+use Rattle.m2v_dec_rows.specs.Headers.{Front, stopped, stopped_from, with_part, slices_by, fault_at, end_of, open_note, AreHeaders}
 
 -- ---- what is known between two units
 
@@ -34,11 +34,8 @@ FitsOpen s None = Unit {0}
 FitsOpen (Some s) (Some p) = HeaderFits (headers.Picture p.info p.extension) × (p.slices_unread ≡ true)
 FitsOpen None (Some p) = ⊥
 
-pub record IsSoundState (st : State) : Type 0 where
-  pub headers_only : st.headers_only ≡ true
-  pub matrices : AreMatrices st
-  pub size : HaveOneSize st.first st.sequence
-  pub fits : FitsOpen st.sequence st.picture
+abbrev pub IsSoundState : State → Type 0
+IsSoundState st = AreHeaders true FitsOpen st
 
 -- the rows of slices are those of the picture that is open
 abbrev pub StandInRows : Option Sequence → Option Open → List SliceUnit → Type 0

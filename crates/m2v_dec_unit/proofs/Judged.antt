@@ -32,17 +32,13 @@ pub record ExtensionAhead (e : SequenceExtension) (t : List Bool) : Type 0 where
 extension_ahead : (e : SequenceExtension) (t rest : List Bool) → head.sequence_extension_at.Stands e t rest → ExtensionAhead e t
 unfolding head.sequence_extension_at seq done
 extension_ahead e t rest st =
-    let a = st.3 in
-    let b = a.3 in
-    let c = b.3 in
-    let d = c.3 in
-    let f = d.3 in
-    let whole = f.3.3.3.3.3.3.3.0 in
-    let bit = flag_is b.0 a.1 b.1 b.2 in
-    let format = format_is c.0 b.1 c.1 c.2 in
-    let width = number_is 2 d.0 c.1 d.1 d.2 in
-    let height = number_is 2 f.0 d.1 f.1 f.2 in
-    let s12 = skip_more (id_skips 1 st.0 t st.1 st.2) (number_is 8 a.0 st.1 a.1 a.2).skips in
+    let size = st.3.3.3.3 in
+    let whole = size.3.3.3.3.3.3.3.3.0 in
+    let bit = flag_is _ _ _ st.3.3.2 in
+    let format = format_is _ _ _ st.3.3.3.2 in
+    let width = number_is 2 _ _ _ size.2 in
+    let height = number_is 2 _ _ _ size.3.2 in
+    let s12 = skip_more (id_skips 1 _ _ _ st.2) (number_is 8 _ _ _ st.3.2).skips in
     let s13 = skip_more s12 bit.2.skips in
     let s15 = skip_more s13 format.skips in
     let s17 = skip_more s15 width.skips in
@@ -62,20 +58,15 @@ pub record PictureAhead (p : PictureExtension) (t : List Bool) : Type 0 where
 picture_ahead : (p : PictureExtension) (t rest : List Bool) → head.picture_extension_at.Stands p t rest → PictureAhead p t
 unfolding head.picture_extension_at seq done
 picture_ahead p t rest st =
-    let codes = st.3 in
-    let dc = codes.3 in
-    let s = dc.3 in
-    let top = s.3 in
-    let f = top.3 in
-    let c = f.3 in
-    let whole = c.3.3.3.3.3.3.3.3.0 in
-    let structure = some_is 7 2 s.0 dc.1 s.1 s.2 in
-    let first = flag_is top.0 s.1 top.1 top.2 in
-    let frames = flag_is f.0 top.1 f.1 f.2 in
-    let concealment = flag_is c.0 f.1 c.1 c.2 in
-    let ahead = f_codes_ahead codes.0 st.1 codes.1 codes.2 in
-    let s4 = id_skips 8 st.0 t st.1 st.2 in
-    let s22 = skip_more s4 (skip_more ahead.skips (number_is 2 dc.0 codes.1 dc.1 dc.2).skips) in
+    let s = st.3.3.3 in
+    let whole = s.3.3.3.3.3.3.3.3.3.3.3.0 in
+    let structure = some_is 7 2 _ _ _ s.2 in
+    let first = flag_is _ _ _ s.3.2 in
+    let frames = flag_is _ _ _ s.3.3.2 in
+    let concealment = flag_is _ _ _ s.3.3.3.2 in
+    let ahead = f_codes_ahead _ _ _ st.3.2 in
+    let s4 = id_skips 8 _ _ _ st.2 in
+    let s22 = skip_more s4 (skip_more ahead.skips (number_is 2 _ _ _ st.3.3.2).skips) in
     let s25 = skip_more s22 (skip_more structure.skips first.2.skips) in
     let s26 = skip_more s25 frames.2.skips in
     let told = λ (direction component : ℕ). ap Some (ap (λ (x : PictureExtension). f_code_of x.f_code direction component) (sym whole)) in

@@ -7,7 +7,6 @@
 mod ahead;
 mod changes;
 mod codes;
-mod groups;
 mod header;
 mod headers;
 mod pictures;
@@ -22,12 +21,11 @@ mod units;
 pub use ahead::id_ahead;
 pub use changes::{enter, enter_slice, enter_unread_slice, first_state};
 pub use codes::code_bits;
-pub use groups::{group, matrices};
 pub use header::Header;
 pub use headers::{is_slice, read_end, read_header, read_text_end};
-pub use pictures::{picture, picture_extension};
+pub use pictures::picture_extension;
 pub use reader::UnitReader;
-pub use sequences::{sequence, sequence_extension};
+pub use sequences::sequence_extension;
 pub use slices::slice_place;
 pub use state::{
     anchors_after, crowded_by, has_anchor, is_complete, is_progressive, is_same_sequence,
@@ -35,3 +33,4 @@ pub use state::{
     with_slice, with_unread_slice,
 };
 pub use unit::Unit;
+pub use units::{group, matrices, picture, sequence};

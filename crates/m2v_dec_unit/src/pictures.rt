@@ -1,6 +1,6 @@
 ghost use Rattle.std.specs.Prelude.{◌≡◌, ◌≤◌, IfOk, IfErr, length, not, ◌||◌};
-ghost use Rattle.m2v_head.specs.Fits.{PictureFits, PictureExtensionFits};
-ghost use Rattle.m2v_model.specs.Headers.{whole_header, picture_in, picture_extension_in, is_f_code, uses_forward as forward_is_used, f_code_at, f_codes_at};
+ghost use Rattle.m2v_head.specs.Fits.{PictureExtensionFits};
+ghost use Rattle.m2v_model.specs.Headers.{whole_header, picture_extension_in, is_f_code, uses_forward as forward_is_used, f_code_at, f_codes_at};
 ghost use Rattle.m2v_model.specs.Headers as headers;
 ghost use Rattle.m2v_model.specs.Looking.{passes};
 ghost use Rattle.m2v_model.specs.Stops.{Tells};
@@ -10,22 +10,6 @@ use crate::ahead::{check, end, left_of, look};
 use m2v_bits::BitReader;
 use m2v_head::{PictureExtension, PictureInfo};
 use m2v_model::{FaultKind, Stop, of_head, stopped};
-
-/// Reads a picture header's unit behind its start code (clause 6.2.3).
-#[tactic(auto, unfolding(m2v_model::specs::Headers::whole_header, m2v_model::specs::Headers::picture_in, m2v_bits::specs::Syntax::renamed, m2v_bits::specs::Syntax::seq, m2v_bits::specs::Syntax::bind, m2v_bits::specs::Syntax::done))]
-pub fn picture(input: &mut BitReader) -> Result<PictureInfo, Stop>
-    ensures exact { Tells result input.new.rest ((whole_header picture_in).read input.old.rest) }
-    ensures left { IfErr result (λ e. e.left ≤ length input.old.text) }
-    ensures fits { IfOk result PictureFits }
-{
-    match PictureInfo::read(input) {
-        Ok(info) => {
-            end(input)?;
-            Ok(info)
-        }
-        Err(e) => Err(stopped(input, of_head(e))),
-    }
-}
 
 /// Whether forward vectors stand in a picture: in P and B pictures, and in any with concealment vectors.
 fn uses_forward(kind: u8, concealment: Option<u32>) -> bool

@@ -1,6 +1,6 @@
 ghost use Rattle.std.specs.Prelude.{◌≡◌, ◌-◌, ◌≤◌, IfOk, IfErr, length, not, nat_eq, nat_le};
-ghost use Rattle.m2v_head.specs.Fits.{SequenceFits, SequenceExtensionFits};
-ghost use Rattle.m2v_model.specs.Headers.{whole_header, sequence_in, sequence_extension_in, size_passes, size_at};
+ghost use Rattle.m2v_head.specs.Fits.{SequenceExtensionFits};
+ghost use Rattle.m2v_model.specs.Headers.{whole_header, sequence_extension_in, size_passes, size_at};
 ghost use Rattle.m2v_model.specs.Looking.{number_from};
 ghost use Rattle.m2v_model.specs.Stops.{Tells};
 ghost use Rattle.m2v_dec_unit.specs.Reads.{IsReadSequence};
@@ -9,22 +9,6 @@ use crate::ahead::{check, end, left_of, look};
 use m2v_bits::BitReader;
 use m2v_head::{SequenceExtension, SequenceInfo};
 use m2v_model::{FaultKind, Stop, of_head, stopped};
-
-/// Reads a sequence header's unit behind its start code (clause 6.2.2.1).
-#[tactic(auto, unfolding(m2v_model::specs::Headers::whole_header, m2v_model::specs::Headers::sequence_in, m2v_bits::specs::Syntax::renamed, m2v_bits::specs::Syntax::seq, m2v_bits::specs::Syntax::bind, m2v_bits::specs::Syntax::done))]
-pub fn sequence(input: &mut BitReader) -> Result<SequenceInfo, Stop>
-    ensures exact { Tells result input.new.rest ((whole_header sequence_in).read input.old.rest) }
-    ensures left { IfErr result (λ e. e.left ≤ length input.old.text) }
-    ensures fits { IfOk result SequenceFits }
-{
-    match SequenceInfo::read(input) {
-        Ok(info) => {
-            end(input)?;
-            Ok(info)
-        }
-        Err(e) => Err(stopped(input, of_head(e))),
-    }
-}
 
 /// Whether a size isn't 0. It is looked at where the chroma format before it is read.
 fn is_some_size(low: u32, format: Option<u32>, ext: Option<u32>) -> bool

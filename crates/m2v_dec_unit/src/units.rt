@@ -3,20 +3,85 @@ ghost use Rattle.m2v_head.specs.Fits.{SequenceFits, GroupFits, PictureFits, Matr
 ghost use Rattle.m2v_model.specs.declared.fault.FaultKind.{FaultKind as Kind};
 ghost use Rattle.m2v_model.specs.Units.{unit_bits, unit_at, inside};
 ghost use Rattle.m2v_model.specs.Headers.{whole_header, sequence_in, sequence_extension_in, group_in, picture_in, picture_extension_in, matrices_in};
+ghost use Rattle.m2v_model.specs.Stops.{Tells};
 ghost use Rattle.m2v_model.specs.Streams.{id_at};
 ghost use Rattle.m2v_dec_unit.specs.Reads.{IsReadSequence, IsReadPicture};
 ghost use Rattle.m2v_dec_unit.specs.Among.{TellsIn};
 
-use crate::ahead::id_ahead;
-use crate::groups::{group, matrices};
-use crate::pictures::{picture, picture_extension};
+use crate::ahead::{end, id_ahead};
+use crate::pictures::picture_extension;
 use crate::reader::UnitReader;
-use crate::sequences::{sequence, sequence_extension};
+use crate::sequences::sequence_extension;
 use crate::unit::Unit;
+use m2v_bits::BitReader;
 use m2v_head::{
     GroupInfo, MatrixInfo, PictureExtension, PictureInfo, SequenceExtension, SequenceInfo,
 };
-use m2v_model::Stop;
+use m2v_model::{Stop, of_head, stopped};
+
+/// Reads a sequence header's unit behind its start code (clause 6.2.2.1).
+#[tactic(auto, unfolding(m2v_model::specs::Headers::whole_header, m2v_model::specs::Headers::sequence_in, m2v_bits::specs::Syntax::renamed, m2v_bits::specs::Syntax::seq, m2v_bits::specs::Syntax::bind, m2v_bits::specs::Syntax::done))]
+pub fn sequence(input: &mut BitReader) -> Result<SequenceInfo, Stop>
+    ensures exact { Tells result input.new.rest ((whole_header sequence_in).read input.old.rest) }
+    ensures left { IfErr result (λ e. e.left ≤ length input.old.text) }
+    ensures fits { IfOk result SequenceFits }
+{
+    match SequenceInfo::read(input) {
+        Ok(info) => {
+            end(input)?;
+            Ok(info)
+        }
+        Err(e) => Err(stopped(input, of_head(e))),
+    }
+}
+
+/// Reads a group header's unit behind its start code (clause 6.2.2.6).
+#[tactic(auto, unfolding(m2v_model::specs::Headers::whole_header, m2v_model::specs::Headers::group_in, m2v_bits::specs::Syntax::renamed, m2v_bits::specs::Syntax::seq, m2v_bits::specs::Syntax::bind, m2v_bits::specs::Syntax::done))]
+pub fn group(input: &mut BitReader) -> Result<GroupInfo, Stop>
+    ensures exact { Tells result input.new.rest ((whole_header group_in).read input.old.rest) }
+    ensures left { IfErr result (λ e. e.left ≤ length input.old.text) }
+    ensures fits { IfOk result GroupFits }
+{
+    match GroupInfo::read(input) {
+        Ok(info) => {
+            end(input)?;
+            Ok(info)
+        }
+        Err(e) => Err(stopped(input, of_head(e))),
+    }
+}
+
+/// Reads a picture header's unit behind its start code (clause 6.2.3).
+#[tactic(auto, unfolding(m2v_model::specs::Headers::whole_header, m2v_model::specs::Headers::picture_in, m2v_bits::specs::Syntax::renamed, m2v_bits::specs::Syntax::seq, m2v_bits::specs::Syntax::bind, m2v_bits::specs::Syntax::done))]
+pub fn picture(input: &mut BitReader) -> Result<PictureInfo, Stop>
+    ensures exact { Tells result input.new.rest ((whole_header picture_in).read input.old.rest) }
+    ensures left { IfErr result (λ e. e.left ≤ length input.old.text) }
+    ensures fits { IfOk result PictureFits }
+{
+    match PictureInfo::read(input) {
+        Ok(info) => {
+            end(input)?;
+            Ok(info)
+        }
+        Err(e) => Err(stopped(input, of_head(e))),
+    }
+}
+
+/// Reads a quant matrix extension's unit behind its start code (clause 6.2.3.2).
+#[tactic(auto, unfolding(m2v_model::specs::Headers::whole_header, m2v_model::specs::Headers::matrices_in, m2v_bits::specs::Syntax::renamed, m2v_bits::specs::Syntax::seq, m2v_bits::specs::Syntax::bind, m2v_bits::specs::Syntax::done))]
+pub fn matrices(input: &mut BitReader) -> Result<MatrixInfo, Stop>
+    ensures exact { Tells result input.new.rest ((whole_header matrices_in).read input.old.rest) }
+    ensures left { IfErr result (λ e. e.left ≤ length input.old.text) }
+    ensures fits { IfOk result MatrixFits }
+{
+    match MatrixInfo::read(input) {
+        Ok(info) => {
+            end(input)?;
+            Ok(info)
+        }
+        Err(e) => Err(stopped(input, of_head(e))),
+    }
+}
 
 /// A fault inside a unit, with the units that are left behind it.
 fn behind(stop: Stop, units: &UnitReader) -> Stop

@@ -17,10 +17,10 @@ use Rattle.m2v_model.proofs.FlowLaws.{read_err, read_last}
 use Rattle.m2v_dec_rows.specs.m2v_dec_unit.Among.{EndsText}
 pub use Rattle.m2v_dec_rows.proofs.Standing.{whole_length}
 use Rattle.m2v_decode.specs.declared.course.Course.{Course}
-use Rattle.m2v_decode.specs.Course.{between_of, no_notes, with_events, ReadAll}
+use Rattle.m2v_decode.specs.Course.{between_of, seen_as, no_notes, with_events, ReadAll}
 use Rattle.m2v_plane.specs.Samples.{Samples}
 use Rattle.m2v_order.specs.Display.{Holder}
-use Rattle.m2v_decode.specs.Decoding.{Decoding, Agrees, ShowsFrames, dropped_in, Finished, Advanced}
+use Rattle.m2v_decode.specs.Decoding.{Agrees, ShowsFrames, dropped_in, Finished, Advanced}
 use Rattle.m2v_decode.proofs.FrameLaws.{rest_same}
 
 abbrev at : State → Store → Between
@@ -62,21 +62,6 @@ pub text_err : (r : Result (Unit {0}) Stop) (st : State) → st.picture ≡ None
 text_err (Ok done) st none read ends left = tt
 text_err (Err e) st none read ends left = λ store end. end_waits st store end e none read ends left
 
--- what contracts see of a decoder
-abbrev pub seen_as : Course → Bool → Bool → Bool → Decoding
-seen_as c ended failed skims = record {
-  state = c.state;
-  frames = c.gallery;
-  anchor = c.queue.anchor;
-  ready = c.ready.items;
-  ended = ended;
-  failed = failed;
-  skims = skims;
-  pictures = c.pictures;
-  dropped = c.dropped;
-  shown = c.shown;
-}
-
 pub finished : (c : Course) (end : ℕ) (ended skims : Bool) → end_read (between_of c) end ≡ Ok ([], between_of c) → Finished (seen_as c ended false skims) end (seen_as c true false skims)
 finished c end ended skims read = record { read = read; first = refl; anchor = refl; ready = refl; ended = refl; failed = refl; pictures = refl; dropped = refl; shown = refl }
 
@@ -99,19 +84,21 @@ pub advanced : (old c d : Course) (us : Units) (place : ℕ) (whole : List ℕ) 
 advanced old c d us place whole notes before behind r between queue ready pictures dropped shown fresh code taken is count some =
     let end = place + length whole in
     record {
-      events = r.events;
-      read = piece_is (between_of old) end whole ∙ ap (placed end) (ap (units_read (between_of old)) (sym is) ∙ ap (λ (b : Between). units_read b us) (sym between) ∙ r.read);
+      onward = record {
+        events = r.events;
+        read = piece_is (between_of old) end whole ∙ ap (placed end) (ap (units_read (between_of old)) (sym is) ∙ ap (λ (b : Between). units_read b us) (sym between) ∙ r.read);
+        first = λ low agree. subst (λ (b : Between). Agrees low b.state.first) between (r.first low agree);
+        shows = λ low agree.
+            subst (λ v. ShowsFrames low old.queue.anchor v.items (pictures_in r.events) d.queue.anchor d.ready.items) ready
+            (subst (λ (q : Holder Samples). ShowsFrames low q.anchor c.ready.items (pictures_in r.events) d.queue.anchor d.ready.items) queue (r.shows low agree));
+        counted = r.counted ∙ ap (λ (n : ℕ). n + length (pictures_in r.events)) pictures;
+        dropped = r.dropped ∙ ap (λ (n : ℕ). n + dropped_in (pictures_in r.events)) dropped;
+        few = whole_few (length (pictures_in r.events)) (length whole) (length us) r.few count some;
+        shown = r.shown ∙ shown;
+        going = refl;
+        sound = refl;
+      };
       notes_are = notes_are place c.code_end whole us r.events notes is code (ap noted taken ∙ r.notes ∙ ap (λ n. with_events c.code_end n r.events) fresh);
-      first = λ low agree. subst (λ (b : Between). Agrees low b.state.first) between (r.first low agree);
-      shows = λ low agree.
-          subst (λ v. ShowsFrames low old.queue.anchor v.items (pictures_in r.events) d.queue.anchor d.ready.items) ready
-          (subst (λ (q : Holder Samples). ShowsFrames low q.anchor c.ready.items (pictures_in r.events) d.queue.anchor d.ready.items) queue (r.shows low agree));
-      counted = r.counted ∙ ap (λ (n : ℕ). n + length (pictures_in r.events)) pictures;
-      dropped = r.dropped ∙ ap (λ (n : ℕ). n + dropped_in (pictures_in r.events)) dropped;
-      few = whole_few (length (pictures_in r.events)) (length whole) (length us) r.few count some;
-      shown = r.shown ∙ shown;
-      going = refl;
-      sound = refl;
     }
 
 pub refused : (old c : Course) (us : Units) (left place many at : ℕ) (kind : FaultKind) (whole : List ℕ) → units_read (between_of c) us ≡ Err (kind, left) → between_of c ≡ between_of old → us ≡ (cut 0 whole).1 → length whole ≡ many → at ≡ 8 * (place + many) - left

@@ -99,17 +99,19 @@ leads_on old c n us place whole notes r state pictures dropped frames fresh code
     record {
       behind = m;
       advanced = record {
-        events = es;
-        read = piece_is (between d) end whole ∙ ap (placed end) (ap (units_read (between d)) (sym is) ∙ read);
+        onward = record {
+          events = es;
+          read = piece_is (between d) end whole ∙ ap (placed end) (ap (units_read (between d)) (sym is) ∙ read);
+          first = λ low agree. subst (λ (z : State). Agrees low z.first) (sym same) (r.first low agree);
+          shows = λ low agree. shows_by (n.state).first low d.anchor d.ready ps agree w.none;
+          counted = refl;
+          dropped = refl;
+          few = whole_few (length ps) (length whole) (length us) w.few count some;
+          shown = refl;
+          going = refl;
+          sound = refl;
+        };
         notes_are = notes_are place c.code_end whole us es notes is code (ap noted taken ∙ t.notes ∙ ap (λ x. with_events c.code_end x es) fresh);
-        first = λ low agree. subst (λ (z : State). Agrees low z.first) (sym same) (r.first low agree);
-        shows = λ low agree. shows_by (n.state).first low d.anchor d.ready ps agree w.none;
-        counted = refl;
-        dropped = refl;
-        few = whole_few (length ps) (length whole) (length us) w.few count some;
-        shown = refl;
-        going = refl;
-        sound = refl;
       };
       follows = record {
         state = refl;

@@ -14,7 +14,7 @@ use Rattle.m2v_model.specs.declared.state.Sequence.{Sequence}
 use Rattle.m2v_model.specs.declared.state.Open.{Open}
 use Rattle.m2v_model.specs.declared.state.FirstField.{FirstField}
 use Rattle.m2v_model.specs.declared.state.State.{State}
-use Rattle.m2v_model.specs.States.{dims_of, is_b, is_frame, is_frame_end, drops, has_forward, opened, crowded_by, after_sequence, after_group, after_picture, after_matrices, after_end, with_slice, with_unread_slice, first_or, one_anchor_more, none_waits, may_follow, is_same_sequence, is_second_field_due}
+use Rattle.m2v_model.specs.States.{dims_of, is_b, is_frame, is_frame_end, drops, has_forward, opened, crowded_by, after_sequence, after_group, after_picture, after_matrices, after_end, after_slice, with_slice, with_unread_slice, first_or, one_anchor_more, none_waits, may_follow, is_same_sequence, is_second_field_due}
 use Rattle.m2v_model.specs.Pictures.{Store, picture_ended, picture_begun, fresh, references_of}
 use Rattle.m2v_dec_rows.specs.m2v_dec_unit.Reads.{IsReadPicture}
 use Rattle.m2v_dec_rows.specs.m2v_dec_unit.Among.{AreMatrices}
@@ -372,6 +372,12 @@ moves p row covered large = elim (cases_Bool (nat_eq row p.row)) [
       }
   | inr e ↦ record { many = large; crowded = crowded_by p; is = pick_false (nat_eq row p.row) _ _ e; few = omega arith }
 ]
+
+-- the state behind a slice
+pub slice_moves : (st : State) (p : Open) (row covered large : ℕ) → st.picture ≡ Some p
+    → after_slice st row covered large ≡ record st { picture = Some (moved p row covered (moves p row covered large).many (moves p row covered large).crowded) }
+slice_moves st p row covered large is =
+    ap (λ (o : Option Open). record st { picture = o }) (ap (λ (o : Option Open). with_slice o row covered large) is ∙ (moves p row covered large).is)
 
 painted_anchors : (ends b : Bool) (st z : State) (f g : Store) → ((k : ℕ) → drops z k ≡ drops st k) → z.anchors ≡ st.anchors → z.waiting ≡ st.waiting → g.older ≡ f.older → g.newer ≡ f.newer → IsSome g.current
     → HasAnchors st (left_by ends b f) → HasAnchors z (left_by ends b g)

@@ -28,8 +28,8 @@ use Rattle.m2v_dec_piece.specs.Stepping.{Handed, Stopped, NextPiece, Keeps}
 use Rattle.m2v_model.specs.declared.notes.Notes.{Notes}
 use Rattle.m2v_decode.specs.Decoding.{Decoding, at_start, between, due_of, dropped_in, Agrees, ShowsFrames, Advanced, Onward, Refuses, whole_of}
 use Rattle.m2v_decode.specs.Answers.{start_of, AllFit, PiecesRead, place_behind, HasFault, due_before, shown_by, shown_so_far, IsFaulty, IsOver, IsCut, OfText, OfTaken, Fails}
-use Rattle.m2v_decode.specs.Progress.{raw_of, before_all, Cuts, HasPut, Reached, Progress, IsDone}
-use Rattle.m2v_decode.proofs.Putting.{raw-append}
+use Rattle.m2v_decode.specs.Progress.{raw_of, before_all, Cuts, HasPut, Reached, Written, Progress, IsDone}
+use Rattle.m2v_decode.proofs.Putting.{raw-append, stays_but}
 use Rattle.m2v_model.proofs.EventLaws.{pictures_in-append}
 use Rattle.m2v_decode.proofs.Showing.{shows_on, shows_none, shows_behind, dropped-append}
 use Rattle.m2v_decode.proofs.Ordering.{due_is, shown_is, agrees}
@@ -68,21 +68,6 @@ moved_some l1 l2 bytes rest m e = m.was ∙ ap (option_map (λ (t : List ℕ). b
 
 -- ---- one piece more
 
--- what a piece does, without its notes
-pub onward : {old : Decoding} {place : ℕ} {whole : List ℕ} {notes : Notes} {new : Decoding} → Advanced old place whole notes new → Onward old place whole new
-onward a = record {
-  events = a.events;
-  read = a.read;
-  first = a.first;
-  shows = a.shows;
-  counted = a.counted;
-  dropped = a.dropped;
-  few = a.few;
-  shown = a.shown;
-  going = a.going;
-  sound = a.sound;
-}
-
 both_none : (xs ys : List Samples) → xs ++ ys ≡ [] → xs ≡ []
 both_none [] ys e = refl
 both_none (x ∷ xs) ys e = absurd cc
@@ -100,13 +85,19 @@ drained d = record d { ready = []; shown = d.shown + length (due_of d) }
 pub has_put : (d : Decoding) → d.ended ≡ false → HasPut d (drained d)
 has_put d going = record {
   none = due_ready (drained d) going;
-  between_is = refl;
-  anchor = λ still. refl;
-  ended = refl;
-  failed = refl;
-  pictures = refl;
-  dropped = refl;
+  stays = stays_but d [] (d.shown + length (due_of d));
   shown = refl;
+}
+
+-- a piece more was decoded, and the frames due then written
+abbrev pub written_on : {h0 h1 h2 : Option (List ℕ)} {d m n : Decoding} {place : ℕ} {whole : List ℕ} → (so : Written h0 h1 d) → Onward d place whole m → HasPut m n → Grows h1 (raw_of (due_of m)) h2 → Written h0 h2 n
+written_on {h0} {h1} {h2} {d} {m} {n} so a put grown = record {
+  frames = so.frames ++ due_of m;
+  grown = subst (λ (b : List ℕ). Grows h0 b h2) (sym (raw-append so.frames (due_of m))) (grows_on so.grown grown);
+  shown = omega (arith, put.shown, a.shown, so.shown, length-append so.frames (due_of m));
+  none = ready_none n (put.ended ∙ a.going) put.none;
+  going = put.ended ∙ a.going;
+  sound = put.failed ∙ a.sound;
 }
 
 begun_more : (text : List ℕ) (ps qs : Events) (mid last : Between) (whole : List ℕ) (others : List (List ℕ)) → (b : PiecesRead text ps mid (whole ∷ others)) → limit (place_behind b) 0 whole ≡ None
@@ -235,12 +226,7 @@ module _ {S K : Type 0} (left : S → Option (List ℕ)) (input_faults : S → �
   progress_none i0 o0 = record {
     bytes = [];
     moved = moves_nothing (left i0);
-    frames = [];
-    grown = grows_by_nothing (held o0);
-    shown = refl;
-    none = refl;
-    going = refl;
-    sound = refl;
+    written = record { frames = []; grown = grows_by_nothing (held o0); shown = refl; none = refl; going = refl; sound = refl };
     taken = λ rest e. omega arith;
     told = λ rest e. record {
       events = [];
@@ -265,19 +251,14 @@ module _ {S K : Type 0} (left : S → Option (List ℕ)) (input_faults : S → �
   progress_more i0 i1 i2 o0 o1 o2 c c' d m n p notes so handed begun keeps a put grown = record {
     bytes = so.bytes ++ handed.bytes;
     moved = moves_on so.moved handed.moved;
-    frames = so.frames ++ due_of m;
-    grown = subst (λ (b : List ℕ). Grows (held o0) b (held o2)) (sym (raw-append so.frames (due_of m))) (grows_on so.grown grown);
-    shown = omega (arith, put.shown, a.shown, so.shown, length-append so.frames (due_of m));
-    none = ready_none n (put.ended ∙ a.going) put.none;
-    going = put.ended ∙ a.going;
-    sound = put.failed ∙ a.sound;
+    written = written_on so.written a.onward put grown;
     taken = taken_more i0 i1 i2 o0 o1 c c' d (Some p) so handed keeps;
     told = λ rest e.
         let g = gave c handed.bytes rest c' p begun (handed.next rest e) in
         let r = so.told (handed.bytes ++ rest) (moved_some (left i1) (left i2) handed.bytes rest handed.moved e) in
         let start : ℕ = start_of_rest c (handed.bytes ++ rest) in
         let r' = subst (λ (ps : List (List ℕ)). Reached (length so.bytes) (so.bytes ++ (handed.bytes ++ rest)) start ps so.frames d) g.pieces r in
-        let a' = subst (λ (x : ℕ). Onward d x (whole_of p) m) g.place (onward a) in
+        let a' = subst (λ (x : ℕ). Onward d x (whole_of p) m) g.place a.onward in
         let place : start + length (whole_of p) ≡ start_of_rest c' rest = sym (g.next ∙ ap (λ (x : ℕ). x + p.length) g.place ∙ ap (λ (x : ℕ). start + x) g.length) in
         let within = taken_more i0 i1 i2 o0 o1 c c' d (Some p) so handed keeps rest e in
         let more = reached_more (length so.bytes) (length (so.bytes ++ handed.bytes)) _ start (whole_of p) (left_of c' rest) so.frames d m n r' so.none (subst (λ (x : ℕ). limit x 0 (whole_of p) ≡ None) g.place g.fits) a' put (omega (arith, within, place, start_place c' rest begun)) in
@@ -408,7 +389,7 @@ module _ {S K : Type 0} (left : S → Option (List ℕ)) (input_faults : S → �
         let gone = gave c handed.bytes rest c' p begun (handed.next rest e) in
         let within = taken_more i0 i1 i2 o0 o1 c c' d (Some p) so handed keeps rest e in
         subst (λ (t : List ℕ). IsCut (so.bytes ++ handed.bytes) t (output o0 o2)) (sym (append_assoc so.bytes handed.bytes rest))
-        (due_cut (length so.bytes) (so.bytes ++ handed.bytes) _ p.place (whole_of p) (left_of c' rest) so.frames d m o0 o1 o2 g.0 so.none g.1 (onward a) (omega (arith, within, gone.next, g.2, start_place c' rest begun)) so.grown cut);
+        (due_cut (length so.bytes) (so.bytes ++ handed.bytes) _ p.place (whole_of p) (left_of c' rest) so.frames d m o0 o1 o2 g.0 so.none g.1 a.onward (omega (arith, within, gone.next, g.2, start_place c' rest begun)) so.grown cut);
   }
 
   -- output failed behind a piece
@@ -427,12 +408,7 @@ module _ {S K : Type 0} (left : S → Option (List ℕ)) (input_faults : S → �
   pieces_done i0 i1 i2 o0 o1 c c' d so handed over most = record {
     bytes = so.bytes ++ handed.bytes;
     moved = moves_on so.moved handed.moved;
-    frames = so.frames;
-    grown = so.grown;
-    shown = so.shown;
-    none = so.none;
-    going = so.going;
-    sound = so.sound;
+    written = so.written;
     over = over;
     most = most;
     told = λ rest e.

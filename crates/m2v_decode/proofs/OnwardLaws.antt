@@ -42,12 +42,11 @@ use Rattle.m2v_dec_rows.proofs.UpToPicture.{Leads, here, by_sequence, by_group}
 use Rattle.m2v_dec_rows.proofs.Entering.{Enters, enters}
 use Rattle.m2v_decode.specs.declared.course.Course.{Course}
 use Rattle.m2v_decode.specs.Decoding.{Agrees, queue_of, decoded_of, dropped_in, Onward}
-use Rattle.m2v_decode.specs.Course.{between_of, IsFresh, FitsOpen, HaveSizes, HasAnchors, AreSound, IsSoundCourse, frame_list}
+use Rattle.m2v_decode.specs.Course.{between_of, seen_as, IsFresh, FitsOpen, HaveSizes, HasAnchors, AreSound, IsSoundCourse, frame_list}
 use Rattle.m2v_decode.specs.Rebuilt.{IsRebuilt, refs_for, frame_begun, open_of, frames_behind}
 use Rattle.m2v_decode.specs.Taking.{CanTake, queue_behind, frame_ended, TookIn}
 use Rattle.m2v_decode.proofs.FrameLaws.{field_same, no_field, waiting_there, reads_none, sizes_next, begun_anchors, left_by}
 use Rattle.m2v_decode.proofs.CourseLaws.{one_listed, one_dropped, handed_few, few_dropped}
-use Rattle.m2v_decode.proofs.EndLaws.{seen_as}
 use Rattle.m2v_decode.proofs.TookLaws.{begun_current, begun_sized, begun_whole, ended_same}
 use Rattle.m2v_decode.proofs.Showing.{low_stays}
 
@@ -314,7 +313,7 @@ module _ (c : Course) (p : Piece) (o : Opened) (after : State) (sound : IsSoundC
     frame = rows_set structure row o.rows first_frame
 
     fault_is : fault_at (end_of p) f.fault ≡ None
-    fault_is = sym by.fault ∙ ap as_placed whole
+    fault_is = sym by.fault_is ∙ ap as_placed whole
 
     abbrev Told : SliceSetup → Slices → Events → Between → Type 0
     Told s us = TellsPicture at (stopped f) by.sequence by.picture s us
@@ -326,7 +325,7 @@ module _ (c : Course) (p : Piece) (o : Opened) (after : State) (sound : IsSoundC
     by_rows =
         let law = (halves at p f (sound.frames).headers_only between one).rows by.sequence by.picture by.in_force by.is_open kept in
         subst (λ (x : Option Placed). ByRowsOf (setup_of o) (slices_of p o) x) fault_is
-        (subst (λ (us : Slices). ByRowsOf (setup_of o) us (fault_at (end_of p) f.fault)) (sym by.slices)
+        (subst (λ (us : Slices). ByRowsOf (setup_of o) us (fault_at (end_of p) f.fault)) (sym by.slices_are)
         (subst (λ (s : SliceSetup). ByRowsOf s (slices_by (end_of p) [] f.read) (fault_at (end_of p) f.fault)) (sym by.setup) law))
 
     in_rows : (r : ℕ) → r < rows_in (setup_of o) → r < o.rows

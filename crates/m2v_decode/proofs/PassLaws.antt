@@ -7,7 +7,7 @@ use Rattle.m2v_head.specs.Fits.{PictureFits}
 use Rattle.m2v_model.specs.declared.state.Sequence.{Sequence}
 use Rattle.m2v_model.specs.declared.state.Open.{Open}
 use Rattle.m2v_model.specs.declared.state.State.{State}
-use Rattle.m2v_model.specs.States.{dims_of, is_b, is_frame, is_frame_end, drops, opened, picture_rows, slice_setup, after_end, after_slice, with_slice, with_unread_slice, after_unread_slice}
+use Rattle.m2v_model.specs.States.{dims_of, is_b, is_frame, is_frame_end, drops, opened, picture_rows, slice_setup, after_end, after_slice, with_unread_slice, after_unread_slice}
 use Rattle.m2v_model.specs.Units.{body}
 use Rattle.m2v_model.specs.Slices.{slice_at}
 use Rattle.m2v_model.specs.Streams.{after, slice, unread_slice, over}
@@ -21,14 +21,14 @@ use Rattle.m2v_dec_rows.specs.m2v_dec_unit.declared.header.Header.{Header}
 use Rattle.m2v_dec_rows.specs.m2v_dec_unit.declared.header.Header.TheVariants as headers
 use Rattle.m2v_dec_rows.specs.m2v_dec_picture.declared.slices.SliceEnd.{SliceEnd}
 use Rattle.m2v_dec_rows.specs.m2v_dec_picture.Reads.{PassesSlice}
-use Rattle.m2v_dec_rows.proofs.StateLaws.{size_next, size_there}
+use Rattle.m2v_dec_rows.proofs.StateLaws.{size_there, headers_behind, closed_behind}
 use Rattle.m2v_decode.specs.declared.pass.Pass.{Pass}
 use Rattle.m2v_decode.specs.Decoding.{decoded_of, dropped_in}
 use Rattle.m2v_decode.specs.Course.{IsOpen, with_events}
 use Rattle.m2v_decode.specs.Passing.{StandsOpen, AreSoundHeaders, IsSoundPass, Tells, Passes, makes_frame, Ends, EndsBefore, told_of, Noted, SlicePassed}
 use Rattle.m2v_decode.proofs.NoteLaws.{notes_same, noted_on}
 use Rattle.m2v_decode.proofs.Showing.{decoded-append, dropped-append}
-use Rattle.m2v_decode.proofs.FrameLaws.{rest_same, moved, moves}
+use Rattle.m2v_decode.proofs.FrameLaws.{rest_same, moved, moves, slice_moves}
 use Rattle.m2v_decode.proofs.CourseLaws.{open_dropped, few_dropped}
 use Rattle.m2v_decode.proofs.StepLaws.{row_within, most_covered}
 use Rattle.m2v_model.specs.declared.setup.SliceSetup.{SliceSetup}
@@ -140,18 +140,8 @@ open_is st p headers_only off fits unread dropped covered large = record {
 }
 
 headers_on : (st : State) (h : Header) (u : List ℕ) → AreSoundHeaders st → HeaderFits h → HeaderFollows st h → AreMatrices (after st (part_of u h)) → AreSoundHeaders (after st (part_of u h))
-unfolding after
-headers_on st (headers.Sequence s) u sound fits follows matrices = record { headers_only = sound.headers_only; matrices = matrices; size = size_next st.first st.sequence s sound.size fits.1.size follows; fits = tt }
-headers_on st (headers.Group g) u sound fits follows matrices = record { headers_only = sound.headers_only; matrices = matrices; size = sound.size; fits = tt }
-headers_on st (headers.Picture info extension) u sound fits follows matrices = record {
-  headers_only = sound.headers_only;
-  matrices = matrices;
-  size = sound.size;
-  fits = open_behind st.sequence (opened st info extension) follows.0 (open_is st (opened st info extension) st.headers_only sound.headers_only fits refl refl refl refl);
-}
-headers_on st (headers.Matrices m) u sound fits follows matrices = record { headers_only = sound.headers_only; matrices = matrices; size = sound.size; fits = sound.fits }
-headers_on st headers.Skipped u sound fits follows matrices = sound
-headers_on st headers.Ending u sound fits follows matrices = record { headers_only = sound.headers_only; matrices = matrices; size = sound.size; fits = tt }
+headers_on st h u sound = headers_behind false (λ (q : Option Sequence) (o : Option Open). StandsOpen o q) st h u (λ q. tt)
+    (λ info extension fits follows. open_behind st.sequence (opened st info extension) follows.0 (open_is st (opened st info extension) st.headers_only sound.headers_only fits refl refl refl refl)) sound
 
 -- what is told before a header and of it
 told_header : (old mid new : Pass) (h : Header) (u : List ℕ) → EndsBefore h old mid → Tells mid (told_of h) new → (store : Store) → Tells old (told_by old.state store (part_of u h)) new
@@ -252,13 +242,12 @@ pub passes_slice : (old mid new : Pass) (s : Sequence) (p : Open) (row : ℕ) (u
 unfolding after
 passes_slice old mid new s p row u end sound known is h new_is =
     let m = moves p row end.covered end.large in
-    let q = moved p row end.covered m.many m.crowded in
-    let z : State = record old.state { picture = Some q } in
     let o = open_there old.state p sound.state is in
     let held = sound.state in
     let last : Pass = record mid { state = after_slice mid.state row end.covered end.large } in
-    let state_old : after_slice old.state row end.covered end.large ≡ z = ap (λ (x : Option Open). record old.state { picture = x }) (ap (λ (x : Option Open). with_slice x row end.covered end.large) is ∙ m.is) in
-    let state : last.state ≡ z = ap (λ (x : State). after_slice x row end.covered end.large) h.state ∙ state_old in
+    let state_old = slice_moves old.state p row end.covered end.large is in
+    let state = ap (λ (x : State). after_slice x row end.covered end.large) h.state ∙ state_old in
+    let q = moved p row end.covered m.many m.crowded in
     let stands : StandsOpen (Some q) old.state.sequence =
     subst (StandsOpen (Some q)) (sym known) (moved_open p row end.covered m.many m.crowded o h.most (omega (arith, m.few, o.large, h.few))) in
     let t = tells_same old mid last [] h.tells refl refl refl refl refl in
@@ -303,13 +292,15 @@ slice_passed old new s p setup row u text rest end setup_is sound known below te
     let rows : (dims_of s).mb_rows ≤ 72 = omega (arith, size.mb_rows) in
     let high = row_within (is_frame p.extension) (dims_of s).mb_rows rows in
     record {
-      slice = h.0;
-      rest = rest;
-      read = (λ i. (slice_at (sym setup_is i) p.covered row).read (sym text_is i)) ∙ h.1;
-      covered = h.2;
-      large = h.3;
-      most = most_covered 0 (picture_rows s p) (dims_of s).mb_width row end.covered columns high below (subst (λ (z : SliceSetup). end.covered ≤ (row + 1) * z.context.columns) setup_is le);
-      few = few;
+      told = record {
+        slice = h.0;
+        rest = rest;
+        read = (λ i. (slice_at (sym setup_is i) p.covered row).read (sym text_is i)) ∙ h.1;
+        covered = h.2;
+        large = h.3;
+        most = most_covered 0 (picture_rows s p) (dims_of s).mb_width row end.covered columns high below (subst (λ (z : SliceSetup). end.covered ≤ (row + 1) * z.context.columns) setup_is le);
+        few = few;
+      };
       state = ap (λ (x : Pass). x.state) is;
       tells = tells_none old new (ap (λ (x : Pass). x.pictures) is) (ap (λ (x : Pass). x.dropped) is) (ap (λ (x : Pass). x.frames) is) (ap (λ (x : Pass). noted x.notes) is) (ap (λ (x : Pass). x.code_end) is);
     }
@@ -318,10 +309,4 @@ slice_passed old new s p setup row u text rest end setup_is sound known below te
 
 -- behind the sequence end code no picture is open
 pub header_ends : (c d : Pass) (u : List ℕ) (h : Header) → goes_on h ≡ false → Passes c (part_of u h) d → d.state.picture ≡ None
-unfolding after
-header_ends c d u (headers.Sequence s) e step = absurd cc
-header_ends c d u (headers.Group g) e step = absurd cc
-header_ends c d u (headers.Picture info extension) e step = absurd cc
-header_ends c d u (headers.Matrices m) e step = absurd cc
-header_ends c d u headers.Skipped e step = absurd cc
-header_ends c d u headers.Ending e step = ap (λ (z : State). z.picture) step.state
+header_ends c d u h e step = ap (λ (z : State). z.picture) step.state ∙ closed_behind c.state u h e

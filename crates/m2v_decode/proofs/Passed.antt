@@ -1,7 +1,6 @@
 -- Unit after unit, of which nothing is painted: what stands after one more, whatever frames are at hand, and where reading
 -- stops.
 use Rattle.std.proofs.Common.{◌≡◌, ℕ, ◌+◌, ◌≤◌, Bool, true, false, [], ◌++◌, length, Option, Some, None, Ok, Err, refl, sym, ap, subst, ◌∙◌, arith}
-use Rattle.std.proofs.lemmas.List.{append-nil, length-append}
 use Rattle.m2v_model.specs.declared.state.Sequence.{Sequence}
 use Rattle.m2v_model.specs.declared.state.Open.{Open}
 use Rattle.m2v_model.specs.declared.state.State.{State}
@@ -10,18 +9,18 @@ use Rattle.m2v_model.specs.Streams.{Part, after, sequence, group, picture, matri
 use Rattle.m2v_model.specs.Pictures.{Store, Events, pictures_in, no_references, picture_ended, sliced, told_by, store_after}
 use Rattle.m2v_model.specs.ByPieces.{Between, behind, unit_read, units_read, after_part}
 use Rattle.m2v_model.specs.States.{with_slice, with_unread_slice}
-use Rattle.m2v_model.proofs.FlowLaws.{read_err, read_more, read_last, unit_less}
-use Rattle.m2v_model.proofs.SplitLaws.{behind_none, behind_twice}
+use Rattle.m2v_model.proofs.FlowLaws.{read_err, unit_less}
+use Rattle.m2v_model.proofs.SplitLaws.{behind_none}
 use Rattle.m2v_model.proofs.EventLaws.{pictures_in-append}
 use Rattle.m2v_dec_rows.specs.Headers.{HaveOneSize}
 use Rattle.m2v_decode.specs.declared.pass.Pass.{Pass}
 use Rattle.m2v_decode.specs.declared.halt.Halt.{Halt}
 use Rattle.m2v_decode.specs.declared.halt.Halt.TheVariants as halts
 use Rattle.m2v_decode.specs.Decoding.{Agrees}
-use Rattle.m2v_decode.specs.Passing.{StandsOpen, IsSoundPass, Tells, Passes, Rounds, Rests, ReadsAll, PassStops}
+use Rattle.m2v_decode.specs.Passing.{StandsOpen, IsSoundPass, Passes, Rounds, Rests, ToldWith, ReadsWith, ReadsAll, PassStops}
 use Rattle.m2v_decode.proofs.FrameLaws.{moves}
 use Rattle.m2v_decode.proofs.PassLaws.{tells_none, tells_on}
-use Rattle.m2v_decode.proofs.ReadLaws.{agrees_before, one_told, none_told}
+use Rattle.m2v_decode.proofs.ReadLaws.{agrees_before, none_told, more_read, last_read, few_told}
 
 abbrev at : State → Store → Between
 at st store = record { state = st; store = store }
@@ -72,10 +71,9 @@ pub record SoFarWith (store : Store) (old : Pass) (us : Units) (new : Pass) (mid
   pub events : Events
   pub behind_them : Store
   pub read : units_read (record { state = old.state; store = store }) us ≡ behind events (units_read (record { state = new.state; store = behind_them }) mid)
-  pub tells : Tells old events new
+  pub told : ToldWith store old events behind_them new
+  pub open told use *
   pub few : length (pictures_in events) + length mid ≤ length us
-  pub none : new.state.first ≡ None → pictures_in events ≡ []
-  pub rests : Rests old.state store → Rests new.state behind_them
 
 pub record SoFar (old : Pass) (us : Units) (new : Pass) (mid : Units) : Type 0 where
   pub first : (low : Bool) → Agrees low new.state.first → Agrees low old.state.first
@@ -88,10 +86,8 @@ so_far_none c us = record {
     events = [];
     behind_them = store;
     read = sym (behind_none (units_read (at c.state store) us));
-    tells = tells_none c c refl refl refl refl refl;
+    told = record { tells = tells_none c c refl refl refl refl refl; none = λ e. refl; rests = λ h. h };
     few = omega arith;
-    none = λ e. refl;
-    rests = λ h. h;
   };
 }
 
@@ -110,12 +106,7 @@ first_none c p e = first_kept c.first (agrees_before true c p) (agrees_before fa
     first_kept (Some s) a b x y = let both : true ≡ false = a x ∙ sym (b y) in absurd cc
 
 -- what is told of the units before, and of the last one
-record Behind (store : Store) (old : Pass) (before now : Events) (c d : Pass) (mid : Store) (p : Part) : Type 0 where
-  pub tells : Tells old (before ++ now) d
-  pub none : d.state.first ≡ None → pictures_in (before ++ now) ≡ []
-  pub rests : Rests old.state store → Rests d.state (store_after c.state mid p)
-
-stepped : (store : Store) (old c d : Pass) (us mid : Units) (p : Part) → (so : SoFarWith store old us c mid) → IsSoundPass c → Passes c p d → Behind store old so.events (told_by c.state so.behind_them p) c d so.behind_them p
+stepped : (store : Store) (old c d : Pass) (us mid : Units) (p : Part) → (so : SoFarWith store old us c mid) → IsSoundPass c → Passes c p d → ToldWith store old (so.events ++ told_by c.state so.behind_them p) (store_after c.state so.behind_them p) d
 stepped store old c d us mid p so sound step =
     let now = told_by c.state so.behind_them p in
     record {
@@ -128,54 +119,34 @@ stepped store old c d us mid p so sound step =
       rests = λ h. subst (λ (z : State). Rests z (store_after c.state so.behind_them p)) (sym step.state) (rests_on c.state so.behind_them p (so.rests h));
     }
 
+more_with : (store : Store) (old c d : Pass) (us mid next : Units) (more : Bool) (p : Part) → SoFarWith store old us c mid → IsSoundPass c → unit_read c.state mid ≡ Ok ((more, p), next) → more ≡ true → Passes c p d → SoFarWith store old us d next
+more_with store old c d us mid next more p so sound read on step = record {
+  events = so.events ++ told_by c.state so.behind_them p;
+  behind_them = store_after c.state so.behind_them p;
+  read = more_read (at old.state store) (at c.state so.behind_them) (at d.state (store_after c.state so.behind_them p)) us mid next so.events more p so.read read on (step_between c d so.behind_them p step);
+  told = stepped store old c d us mid p so sound step;
+  few = omega (arith, few_told c.state so.behind_them p so.events mid us so.few, unit_less c.state mid next more p read on);
+}
+
+last_with : (store : Store) (old c d : Pass) (us mid next : Units) (more : Bool) (p : Part) → SoFarWith store old us c mid → IsSoundPass c → unit_read c.state mid ≡ Ok ((more, p), next) → more ≡ false → Passes c p d → ReadsWith store old us d
+last_with store old c d us mid next more p so sound read off step = record {
+  events = so.events ++ told_by c.state so.behind_them p;
+  behind = store_after c.state so.behind_them p;
+  read = last_read (at old.state store) (at c.state so.behind_them) (at d.state (store_after c.state so.behind_them p)) us mid next so.events more p so.read read off (step_between c d so.behind_them p step);
+  told = stepped store old c d us mid p so sound step;
+  few = omega (arith, few_told c.state so.behind_them p so.events mid us so.few);
+}
+
 pub so_far_more : (old c d : Pass) (us mid next : Units) (more : Bool) (p : Part) → SoFar old us c mid → IsSoundPass c → unit_read c.state mid ≡ Ok ((more, p), next) → more ≡ true → Passes c p d → SoFar old us d next
 so_far_more old c d us mid next more p so sound read on step = record {
   first = λ low agree. so.first low (agrees_step low c d p step agree);
-  with_frames = λ store.
-      let one_so = so.with_frames store in
-      let b = stepped store old c d us mid p one_so sound step in
-      let mid_store = one_so.behind_them in
-      let now = told_by c.state mid_store p in
-      let one = one_told c.state mid_store p in
-      let less = unit_less c.state mid next more p read on in
-      record {
-        events = one_so.events ++ now;
-        behind_them = store_after c.state mid_store p;
-        read =
-            one_so.read
-            ∙ ap (behind one_so.events) (read_more (at c.state mid_store) mid next more p read on)
-            ∙ sym (behind_twice one_so.events now (units_read (after_part (at c.state mid_store) p) next))
-            ∙ ap (λ (x : Between). behind (one_so.events ++ now) (units_read x next)) (step_between c d mid_store p step);
-        tells = b.tells;
-        few = let few = one_so.few in omega (arith, few, one, less, ap length (pictures_in-append one_so.events now), length-append (pictures_in one_so.events) (pictures_in now));
-        none = b.none;
-        rests = b.rests;
-      };
+  with_frames = λ store. more_with store old c d us mid next more p (so.with_frames store) sound read on step;
 }
 
 pub all_read : (old c d : Pass) (us mid next : Units) (more : Bool) (p : Part) → SoFar old us c mid → IsSoundPass c → unit_read c.state mid ≡ Ok ((more, p), next) → more ≡ false → Passes c p d → d.state.picture ≡ None → ReadsAll old us d
 all_read old c d us mid next more p so sound read off step none = record {
   first = λ low agree. so.first low (agrees_step low c d p step agree);
-  with_frames = λ store.
-      let one_so = so.with_frames store in
-      let b = stepped store old c d us mid p one_so sound step in
-      let mid_store = one_so.behind_them in
-      let now = told_by c.state mid_store p in
-      let one = one_told c.state mid_store p in
-      record {
-        events = one_so.events ++ now;
-        behind = store_after c.state mid_store p;
-        read =
-            one_so.read
-            ∙ ap (behind one_so.events) (read_last (at c.state mid_store) mid next more p read off)
-            ∙ sym (behind_twice one_so.events now (Ok ([], after_part (at c.state mid_store) p)))
-            ∙ ap (λ (l : Events). Ok (l, after_part (at c.state mid_store) p)) (append-nil (one_so.events ++ now))
-            ∙ ap (λ (x : Between). Ok (one_so.events ++ now, x)) (step_between c d mid_store p step);
-        tells = b.tells;
-        few = let few = one_so.few in omega (arith, few, one, ap length (pictures_in-append one_so.events now), length-append (pictures_in one_so.events) (pictures_in now));
-        none = b.none;
-        rests = b.rests;
-      };
+  with_frames = λ store. last_with store old c d us mid next more p (so.with_frames store) sound read off step;
   closed_now = none;
   sound = step.sound;
 }

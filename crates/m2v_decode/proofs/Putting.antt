@@ -1,5 +1,5 @@
 -- Frame after frame: what stands after one more is written, and where writing stops.
-use Rattle.std.proofs.Common.{◌≡◌, ℕ, ◌+◌, ◌≤◌, List, [], ◌∷◌, ◌++◌, length, map, Option, refl, sym, subst, ap, ◌∙◌, append_assoc, arith, false}
+use Rattle.std.proofs.Common.{◌≡◌, ℕ, ◌+◌, ◌≤◌, List, [], ◌∷◌, ◌++◌, length, map, Option, refl, sym, subst, ap, ◌∙◌, append_assoc, arith}
 use Rattle.std.proofs.lemmas.List.{length-append, append-nil, map-append}
 use Rattle.std.proofs.lemmas.List.Concat.{flat_map-append}
 use Rattle.m2v_port.specs.Ends.{Change, change}
@@ -10,7 +10,7 @@ use Rattle.m2v_plane.specs.Raw.{raw, crop}
 use Rattle.m2v_dec_piece.specs.declared.answer.DecodeError.{DecodeError}
 use Rattle.m2v_dec_piece.specs.declared.answer.DecodeError.TheVariants as errors
 use Rattle.m2v_decode.specs.Decoding.{Decoding, between, due_of, HandsOut}
-use Rattle.m2v_decode.specs.Progress.{raw_of, Cuts, HasPut}
+use Rattle.m2v_decode.specs.Progress.{raw_of, Cuts, Stays, HasPut}
 
 pub raw-append : (fs gs : List Samples) → raw_of (fs ++ gs) ≡ raw_of fs ++ raw_of gs
 raw-append fs gs = ap raw (map-append crop fs gs) ∙ flat_map-append (λ (x : List ℕ). x) (map crop fs) (map crop gs)
@@ -18,17 +18,17 @@ raw-append fs gs = ap raw (map-append crop fs gs) ∙ flat_map-append (λ (x : L
 raw_one : (fs : List Samples) (f : Samples) → raw_of (fs ++ f ∷ []) ≡ raw_of fs ++ crop f
 raw_one fs f = raw-append fs (f ∷ []) ∙ ap (λ (t : List ℕ). raw_of fs ++ t) (append-nil (crop f))
 
+-- all but what is due, and how many frames were shown
+pub stays_but : (d : Decoding) (ready : List Samples) (shown : ℕ) → Stays d (record d { ready = ready; shown = shown })
+stays_but d ready shown = record { between_is = refl; anchor = λ going. refl; ended = refl; failed = refl; pictures = refl; dropped = refl }
+
 -- some of the frames that were due were written
 pub record HasPutSome (old new : Decoding) (held : Change) : Type 0 where
   pub frames : List Samples
   pub due : due_of old ≡ frames ++ due_of new
   pub grown : Grows held.old (raw_of frames) held.new
-  pub between_is : between new ≡ between old
-  pub anchor : old.ended ≡ false → new.anchor ≡ old.anchor
-  pub ended : new.ended ≡ old.ended
-  pub failed : new.failed ≡ old.failed
-  pub pictures : new.pictures ≡ old.pictures
-  pub dropped : new.dropped ≡ old.dropped
+  pub stays : Stays old new
+  pub open stays use *
   pub shown : new.shown ≡ old.shown + length frames
 
 pub all_due : (old new : Decoding) (held : Change) → (so : HasPutSome old new held) → due_of new ≡ [] → so.frames ≡ due_of old
@@ -37,12 +37,7 @@ all_due old new held so none = sym (so.due ∙ ap (λ (t : List Samples). so.fra
 pub put_all : (old new : Decoding) (held : Change) → HasPutSome old new held → due_of new ≡ [] → HasPut old new
 put_all old new held so none = record {
   none = none;
-  between_is = so.between_is;
-  anchor = so.anchor;
-  ended = so.ended;
-  failed = so.failed;
-  pictures = so.pictures;
-  dropped = so.dropped;
+  stays = so.stays;
   shown = so.shown ∙ ap (λ (t : List Samples). old.shown + length t) (all_due old new held so none);
 }
 
@@ -56,12 +51,7 @@ module _ {K : Type 0} (held : K → Option (List ℕ)) (output_faults : K → �
     frames = [];
     due = refl;
     grown = grows_by_nothing (held o0);
-    between_is = refl;
-    anchor = λ going. refl;
-    ended = refl;
-    failed = refl;
-    pictures = refl;
-    dropped = refl;
+    stays = stays_but d d.ready d.shown;
     shown = omega arith;
   }
 
@@ -71,12 +61,14 @@ module _ {K : Type 0} (held : K → Option (List ℕ)) (output_faults : K → �
     frames = so.frames ++ f ∷ [];
     due = so.due ∙ ap (λ (t : List Samples). so.frames ++ t) next.due ∙ sym (append_assoc so.frames (f ∷ []) (due_of new));
     grown = subst (λ (b : List ℕ). Grows (held o0) b (held o2)) (sym (raw_one so.frames f)) (grows_on so.grown grown);
-    between_is = (λ i. between (record new { state = next.state i; frames = next.frames i })) ∙ so.between_is;
-    anchor = λ going. next.anchor (so.ended ∙ going) ∙ so.anchor going;
-    ended = next.ended ∙ so.ended;
-    failed = next.failed ∙ so.failed;
-    pictures = next.pictures ∙ so.pictures;
-    dropped = next.dropped ∙ so.dropped;
+    stays = record {
+      between_is = (λ i. between (record new { state = next.state i; frames = next.frames i })) ∙ so.between_is;
+      anchor = λ going. next.anchor (so.ended ∙ going) ∙ so.anchor going;
+      ended = next.ended ∙ so.ended;
+      failed = next.failed ∙ so.failed;
+      pictures = next.pictures ∙ so.pictures;
+      dropped = next.dropped ∙ so.dropped;
+    };
     shown = omega (arith, next.shown, so.shown, length-append so.frames (f ∷ []));
   }
 

@@ -17,14 +17,14 @@ use Rattle.m2v_model.proofs.FlowLaws.{read_err, read_more, read_last, unit_less}
 use Rattle.m2v_model.proofs.SplitLaws.{behind_none, behind_twice}
 use Rattle.m2v_model.proofs.EventLaws.{pictures_in-append}
 use Rattle.m2v_dec_rows.specs.m2v_dec_unit.declared.header.Header.{Header}
-use Rattle.m2v_dec_rows.specs.m2v_dec_unit.declared.header.Header.TheVariants as headers
 use Rattle.m2v_dec_rows.specs.m2v_dec_unit.Among.{goes_on, part_of}
 use Rattle.m2v_dec_rows.specs.m2v_dec_picture.Frames.{Frames, store_of}
+use Rattle.m2v_dec_rows.proofs.StateLaws.{closed_behind}
 use Rattle.m2v_decode.specs.declared.course.Course.{Course}
 use Rattle.m2v_decode.specs.declared.halt.Halt.{Halt}
 use Rattle.m2v_decode.specs.declared.halt.Halt.TheVariants as halts
 use Rattle.m2v_decode.specs.Decoding.{Agrees, ShowsFrames, queue_of, decoded_of, dropped_in}
-use Rattle.m2v_decode.specs.Course.{between_of, FitsOpen, HaveSizes, IsSoundCourse, with_events, Emits, Steps, Rounds, ReadAll, CourseStops}
+use Rattle.m2v_decode.specs.Course.{between_of, FitsOpen, HaveSizes, IsSoundCourse, Emits, Steps, Rounds, HaveTold, ReadAll, CourseStops}
 use Rattle.m2v_decode.proofs.NoteLaws.{notes_same, noted_on}
 use Rattle.m2v_decode.proofs.Showing.{shows_none, shows_on, dropped-append}
 
@@ -32,13 +32,7 @@ use Rattle.m2v_decode.proofs.Showing.{shows_none, shows_on, dropped-append}
 
 -- behind the sequence end code no picture is open
 pub header_ends : (c d : Course) (u : List ℕ) (h : Header) → goes_on h ≡ false → Steps c (part_of u h) d → d.state.picture ≡ None
-unfolding after
-header_ends c d u (headers.Sequence s) e step = absurd cc
-header_ends c d u (headers.Group g) e step = absurd cc
-header_ends c d u (headers.Picture info extension) e step = absurd cc
-header_ends c d u (headers.Matrices m) e step = absurd cc
-header_ends c d u headers.Skipped e step = absurd cc
-header_ends c d u headers.Ending e step = ap (λ (z : State). z.picture) step.state
+header_ends c d u h e step = ap (λ (z : State). z.picture) step.state ∙ closed_behind c.state u h e
 
 -- ---- what a part does to the frames on their way
 
@@ -125,27 +119,24 @@ step_shows low c d p sound agree e =
 pub record SoFar (old : Course) (us : Units) (new : Course) (mid : Units) : Type 0 where
   pub events : Events
   pub read : units_read (between_of old) us ≡ behind events (units_read (between_of new) mid)
-  pub first : (low : Bool) → Agrees low new.state.first → Agrees low old.state.first
-  pub shows : (low : Bool) → Agrees low new.state.first → ShowsFrames low old.queue.anchor old.ready.items (pictures_in events) new.queue.anchor new.ready.items
-  pub counted : new.pictures ≡ old.pictures + length (pictures_in events)
-  pub dropped : new.dropped ≡ old.dropped + dropped_in (pictures_in events)
-  pub notes : noted new.notes ≡ with_events old.code_end (noted old.notes) events
-  pub code_end : new.code_end ≡ old.code_end
+  pub told : HaveTold old events new
+  pub open told use *
   pub few : length (pictures_in events) + length mid ≤ length us
-  pub shown : new.shown ≡ old.shown
 
 pub so_far_none : (c : Course) (us : Units) → SoFar c us c us
 so_far_none c us = record {
   events = [];
   read = sym (behind_none (units_read (between_of c) us));
-  first = λ low a. a;
-  shows = λ low a. shows_none low c.queue.anchor c.ready.items;
-  counted = omega arith;
-  dropped = omega arith;
-  notes = notes_same c.code_end (noted c.notes);
-  code_end = refl;
+  told = record {
+    first = λ low a. a;
+    shows = λ low a. shows_none low c.queue.anchor c.ready.items;
+    counted = omega arith;
+    dropped = omega arith;
+    notes = notes_same c.code_end (noted c.notes);
+    code_end = refl;
+    shown = refl;
+  };
   few = omega arith;
-  shown = refl;
 }
 
 agrees_step : (low : Bool) (c d : Course) (p : Part) → d.state ≡ after c.state p → Agrees low d.state.first → Agrees low c.state.first
@@ -156,16 +147,7 @@ step_between : (c d : Course) (p : Part) → Steps c p d → after_part (between
 step_between c d p step = λ i. record { state = sym step.state i; store = sym step.store i }
 
 -- what is told of the units before, and of the last one
-pub record Behind (old : Course) (before now : Events) (d : Course) : Type 0 where
-  pub first : (low : Bool) → Agrees low d.state.first → Agrees low old.state.first
-  pub shows : (low : Bool) → Agrees low d.state.first → ShowsFrames low old.queue.anchor old.ready.items (pictures_in (before ++ now)) d.queue.anchor d.ready.items
-  pub counted : d.pictures ≡ old.pictures + length (pictures_in (before ++ now))
-  pub dropped : d.dropped ≡ old.dropped + dropped_in (pictures_in (before ++ now))
-  pub notes : noted d.notes ≡ with_events old.code_end (noted old.notes) (before ++ now)
-  pub code_end : d.code_end ≡ old.code_end
-  pub shown : d.shown ≡ old.shown
-
-stepped : (old c d : Course) (us mid : Units) (p : Part) → (so : SoFar old us c mid) → IsSoundCourse c → Steps c p d → Behind old so.events (told_by c.state (store_of c.gallery) p) d
+stepped : (old c d : Course) (us mid : Units) (p : Part) → (so : SoFar old us c mid) → IsSoundCourse c → Steps c p d → HaveTold old (so.events ++ told_by c.state (store_of c.gallery) p) d
 stepped old c d us mid p so sound step =
     let now = told_by c.state (store_of c.gallery) p in
     let e = step.emits in
@@ -183,52 +165,50 @@ stepped old c d us mid p so sound step =
       shown = e.shown ∙ so.shown;
     }
 
+-- units were read up to a part with others behind it, and it tells more
+pub more_read : (b m d : Between) (us mid next : Units) (es : Events) (more : Bool) (p : Part) → units_read b us ≡ behind es (units_read m mid) → unit_read m.state mid ≡ Ok ((more, p), next) → more ≡ true → after_part m p ≡ d
+    → units_read b us ≡ behind (es ++ told_by m.state m.store p) (units_read d next)
+more_read b m d us mid next es more p so read on same =
+    let now = told_by m.state m.store p in
+    so
+    ∙ ap (behind es) (read_more m mid next more p read on)
+    ∙ sym (behind_twice es now (units_read (after_part m p) next))
+    ∙ ap (λ (x : Between). behind (es ++ now) (units_read x next)) same
+
+-- the same of the last one
+pub last_read : (b m d : Between) (us mid next : Units) (es : Events) (more : Bool) (p : Part) → units_read b us ≡ behind es (units_read m mid) → unit_read m.state mid ≡ Ok ((more, p), next) → more ≡ false → after_part m p ≡ d
+    → units_read b us ≡ Ok (es ++ told_by m.state m.store p, d)
+last_read b m d us mid next es more p so read off same =
+    let now = told_by m.state m.store p in
+    so
+    ∙ ap (behind es) (read_last m mid next more p read off)
+    ∙ sym (behind_twice es now (Ok ([], after_part m p)))
+    ∙ ap (λ (l : Events). Ok (l, after_part m p)) (append-nil (es ++ now))
+    ∙ ap (λ (x : Between). Ok (es ++ now, x)) same
+
+-- a part tells one picture at most
+pub few_told : (st : State) (store : Store) (p : Part) (es : Events) (mid us : Units) → length (pictures_in es) + length mid ≤ length us → length (pictures_in (es ++ told_by st store p)) + length mid ≤ length us + 1
+few_told st store p es mid us few =
+    let now = told_by st store p in
+    omega (arith, few, one_told st store p, ap length (pictures_in-append es now), length-append (pictures_in es) (pictures_in now))
+
 pub so_far_more : (old c d : Course) (us mid next : Units) (more : Bool) (p : Part) → SoFar old us c mid → IsSoundCourse c → unit_read c.state mid ≡ Ok ((more, p), next) → more ≡ true → Steps c p d → SoFar old us d next
-so_far_more old c d us mid next more p so sound read on step =
-    let one = one_told c.state (store_of c.gallery) p in
-    let less = unit_less c.state mid next more p read on in
-    let now = told_by c.state (store_of c.gallery) p in
-    let b = stepped old c d us mid p so sound step in
-    record {
-      events = so.events ++ now;
-      read =
-          so.read
-          ∙ ap (behind so.events) (read_more (between_of c) mid next more p read on)
-          ∙ sym (behind_twice so.events now (units_read (after_part (between_of c) p) next))
-          ∙ ap (λ (x : Between). behind (so.events ++ now) (units_read x next)) (step_between c d p step);
-      first = b.first;
-      shows = b.shows;
-      counted = b.counted;
-      dropped = b.dropped;
-      notes = b.notes;
-      code_end = b.code_end;
-      few = omega (arith, so.few, one, less, ap length (pictures_in-append so.events now), length-append (pictures_in so.events) (pictures_in now));
-      shown = b.shown;
-    }
+so_far_more old c d us mid next more p so sound read on step = record {
+  events = so.events ++ told_by c.state (store_of c.gallery) p;
+  read = more_read (between_of old) (between_of c) (between_of d) us mid next so.events more p so.read read on (step_between c d p step);
+  told = stepped old c d us mid p so sound step;
+  few = omega (arith, few_told c.state (store_of c.gallery) p so.events mid us so.few, unit_less c.state mid next more p read on);
+}
 
 pub all_read : (old c d : Course) (us mid next : Units) (more : Bool) (p : Part) → SoFar old us c mid → IsSoundCourse c → unit_read c.state mid ≡ Ok ((more, p), next) → more ≡ false → Steps c p d → d.state.picture ≡ None → ReadAll old us d
-all_read old c d us mid next more p so sound read off step none =
-    let one = one_told c.state (store_of c.gallery) p in
-    let now = told_by c.state (store_of c.gallery) p in
-    let b = stepped old c d us mid p so sound step in
-    record {
-      events = so.events ++ now;
-      read =
-          so.read
-          ∙ ap (behind so.events) (read_last (between_of c) mid next more p read off)
-          ∙ sym (behind_twice so.events now (Ok ([], after_part (between_of c) p)))
-          ∙ ap (λ (l : Events). Ok (l, after_part (between_of c) p)) (append-nil (so.events ++ now))
-          ∙ ap (λ (x : Between). Ok (so.events ++ now, x)) (step_between c d p step);
-      first = b.first;
-      shows = b.shows;
-      counted = b.counted;
-      dropped = b.dropped;
-      notes = b.notes;
-      few = omega (arith, so.few, one, ap length (pictures_in-append so.events now), length-append (pictures_in so.events) (pictures_in now));
-      shown = b.shown;
-      none = none;
-      sound = step.sound;
-    }
+all_read old c d us mid next more p so sound read off step none = record {
+  events = so.events ++ told_by c.state (store_of c.gallery) p;
+  read = last_read (between_of old) (between_of c) (between_of d) us mid next so.events more p so.read read off (step_between c d p step);
+  told = stepped old c d us mid p so sound step;
+  few = omega (arith, few_told c.state (store_of c.gallery) p so.events mid us so.few);
+  none = none;
+  sound = step.sound;
+}
 
 pub stopped : (old c d : Course) (us mid next : Units) (h : Halt) → SoFar old us c mid → Rounds c (Err h) d next (unit_read c.state mid) → CourseStops old us h
 stopped old c d us mid next halts.Memory so r = tt

@@ -17,7 +17,7 @@ use Rattle.m2v_model.specs.declared.setup.SliceSetup.{SliceSetup}
 use Rattle.m2v_model.specs.declared.state.Sequence.{Sequence}
 use Rattle.m2v_model.specs.declared.state.Open.{Open}
 use Rattle.m2v_model.specs.declared.state.State.{State}
-use Rattle.m2v_model.specs.States.{dims_of, is_frame, opened, picture_rows, slice_setup, after_sequence, after_group, after_picture, after_matrices, after_slice, after_unread_slice, with_slice, is_same_sequence, is_second_field_due, none_waits, first_or}
+use Rattle.m2v_model.specs.States.{dims_of, is_frame, opened, picture_rows, slice_setup, after_sequence, after_group, after_picture, after_matrices, after_slice, after_unread_slice, is_same_sequence, is_second_field_due, none_waits, first_or}
 use Rattle.m2v_model.specs.declared.fault.FaultKind.{FaultKind}
 use Rattle.m2v_model.specs.Units.{Units, unit_bits, body, of_body, inside}
 use Rattle.m2v_model.specs.Slices.{Slice, slice_at, slice_start}
@@ -35,7 +35,7 @@ use Rattle.m2v_decode.specs.declared.course.Course.{Course}
 use Rattle.m2v_decode.specs.Decoding.{decoded_of, dropped_in}
 use Rattle.m2v_decode.specs.Course.{IsOpen, HasFrame, FitsOpen, HaveSizes, IsFresh, AreSound, IsSoundCourse, with_events, Emits, Steps, Closed, Begun, Painted}
 use Rattle.m2v_decode.proofs.NoteLaws.{notes_same, noted_on}
-use Rattle.m2v_decode.proofs.FrameLaws.{sequenced, grouped, loaded, begun, moved, moves, sliced_sound, unread_sound}
+use Rattle.m2v_decode.proofs.FrameLaws.{sequenced, grouped, loaded, begun, moves, slice_moves, sliced_sound, unread_sound}
 
 -- ---- the frames on their way stay as they are
 
@@ -277,25 +277,20 @@ painted old s p row u g text rest end sound known is unread below text_is h size
     let frame = at.frame in
     let there : IsSome g.current = subst IsSome (sym (ap (λ (y : Frames). y.current) now)) (some_painted _ f.current (frame.current off)) in
     record {
-      slice = x;
-      rest = rest;
-      read = ap (λ (t : List Bool). (slice_at setup p.covered row).read t) (sym text_is) ∙ h.1;
-      covered = h.2;
-      large = h.3;
-      most = most_covered 0 (picture_rows s p) (dims_of s).mb_width row end.covered columns high below le;
-      few = few;
+      told = record {
+        slice = x;
+        rest = rest;
+        read = ap (λ (t : List Bool). (slice_at setup p.covered row).read t) (sym text_is) ∙ h.1;
+        covered = h.2;
+        large = h.3;
+        most = most_covered 0 (picture_rows s p) (dims_of s).mb_width row end.covered columns high below le;
+        few = few;
+      };
       store = ap store_of now;
       sizes = sizes_painted old.state.first s f g (subst (λ (q : Option Sequence). HaveSizes old.state.first q f) known (sound.frames).sizes) sizes;
       frame = subst (HasFrame p) (sym now) (record { reading = frame.reading; current = λ e. some_painted _ f.current (frame.current e); decoded = λ e. let r = frame.decoded e in record { top = r.top; bottom = r.bottom; back_top = r.back_top; back_bottom = r.back_bottom }; none = λ on. absurd cc });
       current = there;
-      state = refl;
-      queue = refl;
-      ready = refl;
-      pictures = refl;
-      dropped = refl;
-      notes = refl;
-      code_end = refl;
-      shown = refl;
+      others = record { state = refl; queue = refl; ready = refl; pictures = refl; dropped = refl; notes = refl; code_end = refl; shown = refl };
     }
 
 -- what the slices of the picture that is open are read by, as the program has it
@@ -322,12 +317,10 @@ pub steps_slice : (old mid new : Course) (s : Sequence) (p : Open) (row : ℕ) (
 unfolding after
 steps_slice old mid new s p row u end sound known is h new_is =
     let m = moves p row end.covered end.large in
-    let q = moved p row end.covered m.many m.crowded in
-    let z : State = record old.state { picture = Some q } in
     let at = is_at old s p sound known is in
     let last : Course = record mid { state = after_slice mid.state row end.covered end.large } in
-    let state_old : after_slice old.state row end.covered end.large ≡ z = ap (λ (o : Option Open). record old.state { picture = o }) (ap (λ (o : Option Open). with_slice o row end.covered end.large) is ∙ m.is) in
-    let state : last.state ≡ z = ap (λ (x : State). after_slice x row end.covered end.large) h.state ∙ state_old in
+    let state_old = slice_moves old.state p row end.covered end.large is in
+    let state = ap (λ (x : State). after_slice x row end.covered end.large) h.state ∙ state_old in
     let k : Keeps old last = record {
       anchor = ap (λ (y : Holder Samples). y.anchor) h.queue;
       ready = ap (λ v. v.items) h.ready;
@@ -343,7 +336,7 @@ steps_slice old mid new s p row u end sound known is h new_is =
       state = state ∙ sym state_old ∙ ap (λ (n : ℕ). after_slice old.state row n end.large) h.covered ∙ ap (λ (n : ℕ). after_slice old.state row (h.slice).covered n) h.large;
       store = h.store ∙ ap (λ (y : Option Sequence). sliced old.state y (Some p) row h.slice (store_of old.gallery)) (sym known) ∙ ap (λ (o : Option Open). sliced old.state old.state.sequence o row h.slice (store_of old.gallery)) (sym is);
       emits = emits_none old last k h.notes;
-      sound = sound_kept old last z mid.gallery sound k (ap (λ (y : Holder Samples). y.low_delay) h.queue) refl state refl frames;
+      sound = sound_kept old last _ mid.gallery sound k (ap (λ (y : Holder Samples). y.low_delay) h.queue) refl state refl frames;
     })
 
 -- a slice in its unit, once its row stands

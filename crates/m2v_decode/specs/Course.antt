@@ -29,11 +29,26 @@ use Rattle.m2v_dec_rows.specs.Headers.{IsBetween}
 use Rattle.m2v_decode.specs.declared.course.Course.{Course}
 use Rattle.m2v_decode.specs.declared.halt.Halt.{Halt}
 use Rattle.m2v_decode.specs.declared.halt.Halt.TheVariants.{Fault, Memory}
-use Rattle.m2v_decode.specs.Decoding.{Agrees, ShowsFrames, decoded_of, dropped_in}
+use Rattle.m2v_decode.specs.Decoding.{Decoding, Agrees, ShowsFrames, decoded_of, dropped_in}
 
 -- what the definitions say of a decoder at work: the headers in force, and the frames at hand
 abbrev pub between_of : Course → Between
 between_of c = record { state = c.state; store = store_of c.gallery }
+
+-- what contracts see of a decoder
+abbrev pub seen_as : Course → Bool → Bool → Bool → Decoding
+seen_as c ended failed skims = record {
+  state = c.state;
+  frames = c.gallery;
+  anchor = c.queue.anchor;
+  ready = c.ready.items;
+  ended = ended;
+  failed = failed;
+  skims = skims;
+  pictures = c.pictures;
+  dropped = c.dropped;
+  shown = c.shown;
+}
 
 -- ---- what is known between two units
 
@@ -154,16 +169,21 @@ pub record Showed (old : Course) (frame : Option Samples) (kind : ℕ) (new : Co
   pub state : new.state ≡ old.state
   pub gallery : new.gallery ≡ old.gallery
 
--- a picture ended: it is counted, and noted where it is the first of its piece
-pub record Counted (old : Course) (p : Open) (new : Course) : Type 0 where
+-- a picture is counted, and noted where it is the first of its piece; the headers in force stay
+pub record Counts (old : Course) (p : Open) (new : Course) : Type 0 where
   pub pictures : new.pictures ≡ old.pictures + 1
   pub dropped : new.dropped ≡ old.dropped + (if p.dropped then 1 else 0)
   pub notes : (store : Store) → noted new.notes ≡ with_events old.code_end (noted old.notes) (closed (Some p) store)
   pub code_end : new.code_end ≡ old.code_end
   pub shown : new.shown ≡ old.shown
+  pub state : new.state ≡ old.state
+
+-- a picture ended: it is counted and noted
+pub record Counted (old : Course) (p : Open) (new : Course) : Type 0 where
+  pub counts : Counts old p new
+  pub open counts use *
   pub ready : new.ready ≡ old.ready
   pub queue : new.queue ≡ old.queue
-  pub state : new.state ≡ old.state
   pub gallery : new.gallery ≡ old.gallery
 
 -- a picture ended: it is counted and noted, and its frame shown at once or held
@@ -175,12 +195,8 @@ pub record Ended (old : Course) (p : Open) (new : Course) : Type 0 where
   pub sizes : (d : Dims) → HaveSize d old.gallery → HaveSize d new.gallery
   pub ready : new.ready.items ≡ old.ready.items ++ handed old.queue (frame_list frame p.info.kind)
   pub queue : new.queue ≡ held_after old.queue (frame_list frame p.info.kind)
-  pub pictures : new.pictures ≡ old.pictures + 1
-  pub dropped : new.dropped ≡ old.dropped + (if p.dropped then 1 else 0)
-  pub notes : (store : Store) → noted new.notes ≡ with_events old.code_end (noted old.notes) (closed (Some p) store)
-  pub code_end : new.code_end ≡ old.code_end
-  pub shown : new.shown ≡ old.shown
-  pub state : new.state ≡ old.state
+  pub counts : Counts old p new
+  pub open counts use *
 
 -- the picture that was open is whole
 pub record Closed (old new : Course) : Type 0 where
@@ -189,66 +205,82 @@ pub record Closed (old new : Course) : Type 0 where
   pub emits : Emits old (closed old.state.picture (store_of old.gallery)) new
   pub sound : IsSoundCourse new
 
+-- the frames at hand alone change
+pub record FramesAlone (old new : Course) : Type 0 where
+  pub state : new.state ≡ old.state
+  pub queue : new.queue ≡ old.queue
+  pub ready : new.ready ≡ old.ready
+  pub pictures : new.pictures ≡ old.pictures
+  pub dropped : new.dropped ≡ old.dropped
+  pub notes : noted new.notes ≡ noted old.notes
+  pub code_end : new.code_end ≡ old.code_end
+  pub shown : new.shown ≡ old.shown
+
 -- the frame of a picture that begins is at hand
 pub record Begun (old : Course) (p : Open) (new : Course) : Type 0 where
   pub store : store_of new.gallery ≡ picture_begun old.state.sequence p (store_of old.gallery)
   pub reading : new.gallery.reading ≡ reading_of p
   pub first_field : p.second_field ≡ true → p.slices_unread ≡ false → new.gallery.first_field ≡ old.gallery.current
   pub sizes : HaveSizes old.state.first old.state.sequence new.gallery
-  pub state : new.state ≡ old.state
-  pub queue : new.queue ≡ old.queue
-  pub ready : new.ready ≡ old.ready
-  pub pictures : new.pictures ≡ old.pictures
-  pub dropped : new.dropped ≡ old.dropped
-  pub notes : noted new.notes ≡ noted old.notes
-  pub code_end : new.code_end ≡ old.code_end
-  pub shown : new.shown ≡ old.shown
+  pub others : FramesAlone old new
+  pub open others use *
 
--- a slice of a row was read and painted
-pub record Painted (old : Course) (s : Sequence) (p : Open) (row : ℕ) (u : List ℕ) (end : SliceEnd) (new : Course) : Type 0 where
+-- a slice of a row was read
+pub record SliceRead (st : State) (s : Sequence) (p : Open) (row : ℕ) (u : List ℕ) (end : SliceEnd) : Type 0 where
   pub slice : Slice
   pub rest : List Bool
-  pub read : (slice_at (slice_setup old.state s p) p.covered row).read (body u) ≡ Ok (slice, rest)
+  pub read : (slice_at (slice_setup st s p) p.covered row).read (body u) ≡ Ok (slice, rest)
   pub covered : end.covered ≡ slice.covered
   pub large : end.large ≡ large_in slice
   pub most : end.covered ≤ 2 ^ 16
   pub few : p.covered + end.large ≤ end.covered
+
+-- there is a fault in it
+abbrev pub SliceBroken : State → Sequence → Open → ℕ → List ℕ → Units → Stop → Type 0
+SliceBroken st s p row u units e = (left : ℕ) × ((slice_at (slice_setup st s p) p.covered row).read (body u) ≡ Err (e.kind, left)) × (e.left ≡ left + unit_bits units)
+
+-- it was read and painted
+pub record Painted (old : Course) (s : Sequence) (p : Open) (row : ℕ) (u : List ℕ) (end : SliceEnd) (new : Course) : Type 0 where
+  pub told : SliceRead old.state s p row u end
+  pub open told use *
   pub store : store_of new.gallery ≡ sliced old.state (Some s) (Some p) row slice (store_of old.gallery)
   pub sizes : HaveSizes old.state.first (Some s) new.gallery
   pub frame : HasFrame p new.gallery
   pub current : IsSome new.gallery.current
-  pub state : new.state ≡ old.state
-  pub queue : new.queue ≡ old.queue
-  pub ready : new.ready ≡ old.ready
-  pub pictures : new.pictures ≡ old.pictures
-  pub dropped : new.dropped ≡ old.dropped
-  pub notes : noted new.notes ≡ noted old.notes
-  pub code_end : new.code_end ≡ old.code_end
-  pub shown : new.shown ≡ old.shown
+  pub others : FramesAlone old new
+  pub open others use *
 
 -- that, or the fault in the slice
 abbrev pub Paints : Course → Sequence → Open → ℕ → List ℕ → Units → Result SliceEnd Stop → Course → Type 0
 Paints old s p row u units (Ok end) new = Painted old s p row u end new
-Paints old s p row u units (Err e) new =
-    (left : ℕ) × ((slice_at (slice_setup old.state s p) p.covered row).read (body u) ≡ Err (e.kind, left)) × (e.left ≡ left + unit_bits units)
+Paints old s p row u units (Err e) new = SliceBroken old.state s p row u units e
 
--- what a round among the units answers: whether another follows
+-- what a round among the units answers: whether another follows, behind a part that does so and in this state
+abbrev pub RoundsBy : (Part → Type 0) → State → Result Bool Halt → Units → Result ((Bool × Part) × Units) (FaultKind × ℕ) → Type 0
+RoundsBy Does st (Ok more) rest read = (p : Part) × (read ≡ Ok ((more, p), rest)) × Does p × (more ≡ false → st.picture ≡ None)
+RoundsBy Does st (Err Memory) rest read = Unit {0}
+RoundsBy Does st (Err (Fault stop)) rest read = read ≡ Err (stop.kind, stop.left)
+
 abbrev pub Rounds : Course → Result Bool Halt → Course → Units → Result ((Bool × Part) × Units) (FaultKind × ℕ) → Type 0
-Rounds old (Ok more) new rest read = (p : Part) × (read ≡ Ok ((more, p), rest)) × Steps old p new × (more ≡ false → new.state.picture ≡ None)
-Rounds old (Err Memory) new rest read = Unit {0}
-Rounds old (Err (Fault stop)) new rest read = read ≡ Err (stop.kind, stop.left)
+Rounds old result new rest read = RoundsBy (λ (p : Part). Steps old p new) new.state result rest read
 
--- all units of a piece were read, and no picture is open
-pub record ReadAll (old : Course) (us : Units) (new : Course) : Type 0 where
-  pub events : Events
-  pub read : units_read (between_of old) us ≡ Ok (events, between_of new)
+-- units told these events, and each frame is shown or held as display order asks
+pub record HaveTold (old : Course) (events : Events) (new : Course) : Type 0 where
   pub first : (low : Bool) → Agrees low new.state.first → Agrees low old.state.first
   pub shows : (low : Bool) → Agrees low new.state.first → ShowsFrames low old.queue.anchor old.ready.items (pictures_in events) new.queue.anchor new.ready.items
   pub counted : new.pictures ≡ old.pictures + length (pictures_in events)
   pub dropped : new.dropped ≡ old.dropped + dropped_in (pictures_in events)
   pub notes : noted new.notes ≡ with_events old.code_end (noted old.notes) events
-  pub few : length (pictures_in events) ≤ length us + 1
+  pub code_end : new.code_end ≡ old.code_end
   pub shown : new.shown ≡ old.shown
+
+-- all units of a piece were read, and no picture is open
+pub record ReadAll (old : Course) (us : Units) (new : Course) : Type 0 where
+  pub events : Events
+  pub read : units_read (between_of old) us ≡ Ok (events, between_of new)
+  pub told : HaveTold old events new
+  pub open told use *
+  pub few : length (pictures_in events) ≤ length us + 1
   pub none : new.state.picture ≡ None
   pub sound : IsSoundCourse new
 

@@ -82,22 +82,7 @@ pub record ShowsFrames (low : Bool) (anchor : Option Samples) (ready : List Samp
   pub ready_is : ready_then ≡ ready ++ handed (queue_of low anchor) (decoded_of ps)
   pub anchor_is : anchor_then ≡ (held_after (queue_of low anchor) (decoded_of ps)).anchor
 
--- a piece that begins at a byte was read, and its pictures decoded or dropped
-pub record Advanced (old : Decoding) (place : ℕ) (whole : List ℕ) (notes : Notes) (new : Decoding) : Type 0 where
-  pub events : Events
-  pub read : piece_read (between old) (place + length whole) whole ≡ Ok (events, between new)
-  pub notes_are : noted notes ≡ notes_of place whole events
-  pub first : (low : Bool) → Agrees low new.state.first → Agrees low old.state.first
-  pub shows : (low : Bool) → Agrees low new.state.first → ShowsFrames low old.anchor old.ready (pictures_in events) new.anchor new.ready
-  pub counted : new.pictures ≡ old.pictures + length (pictures_in events)
-  pub dropped : new.dropped ≡ old.dropped + dropped_in (pictures_in events)
-  pub few : length (pictures_in events) ≤ length whole
-  pub shown : new.shown ≡ old.shown
-  pub going : new.ended ≡ false
-  pub sound : new.failed ≡ false
-
--- a piece that begins at a byte was taken into the decoder, and its pictures counted and shown or held: the same, where
--- nothing is noted of it
+-- a piece that begins at a byte was taken into the decoder, and its pictures counted and shown or held
 pub record Onward (old : Decoding) (place : ℕ) (whole : List ℕ) (new : Decoding) : Type 0 where
   pub events : Events
   pub read : piece_read (between old) (place + length whole) whole ≡ Ok (events, between new)
@@ -109,6 +94,12 @@ pub record Onward (old : Decoding) (place : ℕ) (whole : List ℕ) (new : Decod
   pub shown : new.shown ≡ old.shown
   pub going : new.ended ≡ false
   pub sound : new.failed ≡ false
+
+-- a piece that begins at a byte was read, and its pictures decoded or dropped: the same, with what is noted of it
+pub record Advanced (old : Decoding) (place : ℕ) (whole : List ℕ) (notes : Notes) (new : Decoding) : Type 0 where
+  pub onward : Onward old place whole new
+  pub open onward use *
+  pub notes_are : noted notes ≡ notes_of place whole events
 
 -- why a piece that begins at a byte wasn't: its first fault; want of memory is the one free answer
 abbrev pub Refuses : Decoding → ℕ → List ℕ → DecodeError → Type 0

@@ -1,27 +1,25 @@
 -- A reader at work in a piece: what a part of the stream does to it, whatever frames are at hand.
-use Rattle.std.specs.Prelude.{◌≡◌, ℕ, ◌+◌, ◌^◌, ◌≤◌, false, not, List, [], ◌∷◌, length, Bool, ◌&&◌, Option, Some, None, Result, Ok, Err}
+use Rattle.std.specs.Prelude.{◌≡◌, ℕ, ◌+◌, ◌≤◌, false, not, List, [], ◌∷◌, length, Bool, ◌&&◌, Option, Some, None, Result, Ok, Err}
 use Rattle.m2v_model.specs.declared.fault.FaultKind.{FaultKind}
 use Rattle.m2v_model.specs.declared.stop.Stop.{Stop}
 use Rattle.m2v_model.specs.declared.state.Sequence.{Sequence}
 use Rattle.m2v_model.specs.declared.state.Open.{Open}
 use Rattle.m2v_model.specs.declared.state.State.{State}
-use Rattle.m2v_model.specs.Units.{Units, unit_bits, body}
-use Rattle.m2v_model.specs.Slices.{Slice, slice_at, large_in}
+use Rattle.m2v_model.specs.Units.{Units}
 use Rattle.m2v_model.specs.Streams.{Part, after}
-use Rattle.m2v_model.specs.States.{is_frame_end, slice_setup, after_end}
+use Rattle.m2v_model.specs.States.{is_frame_end, after_end}
 use Rattle.m2v_model.specs.Pictures.{Store, Events, sequence_header, group_header, pictures_in, no_references, closed, told_by}
 use Rattle.m2v_model.specs.PieceNotes.{noted}
 use Rattle.m2v_model.specs.ByPieces.{units_read}
 use Rattle.m2v_dec_rows.specs.m2v_dec_unit.declared.header.Header.{Header}
 use Rattle.m2v_dec_rows.specs.m2v_dec_unit.declared.header.Header.TheVariants as headers
-use Rattle.m2v_dec_rows.specs.m2v_dec_unit.Among.{AreMatrices}
 use Rattle.m2v_dec_rows.specs.m2v_dec_picture.declared.slices.SliceEnd.{SliceEnd}
-use Rattle.m2v_dec_rows.specs.Headers.{HaveOneSize}
+use Rattle.m2v_dec_rows.specs.Headers.{AreHeaders}
 use Rattle.m2v_decode.specs.declared.pass.Pass.{Pass}
 use Rattle.m2v_decode.specs.declared.halt.Halt.{Halt}
 use Rattle.m2v_decode.specs.declared.halt.Halt.TheVariants.{Fault, Memory}
 use Rattle.m2v_decode.specs.Decoding.{Agrees, decoded_of, dropped_in}
-use Rattle.m2v_decode.specs.Course.{IsOpen, with_events}
+use Rattle.m2v_decode.specs.Course.{IsOpen, SliceRead, SliceBroken, RoundsBy, with_events}
 
 -- ---- what is known between two units
 
@@ -32,11 +30,8 @@ StandsOpen (Some p) (Some s) = IsOpen p
 StandsOpen (Some p) None = ⊥
 
 -- the headers in force agree
-pub record AreSoundHeaders (st : State) : Type 0 where
-  pub headers_only : st.headers_only ≡ false
-  pub matrices : AreMatrices st
-  pub size : HaveOneSize st.first st.sequence
-  pub fits : StandsOpen st.picture st.sequence
+abbrev pub AreSoundHeaders : State → Type 0
+AreSoundHeaders st = AreHeaders false (λ (q : Option Sequence) (o : Option Open). StandsOpen o q) st
 
 pub record IsSoundPass (c : Pass) : Type 0 where
   pub state : AreSoundHeaders c.state
@@ -98,42 +93,39 @@ pub record Noted (old : Pass) (h : Header) (new : Pass) : Type 0 where
 
 -- a slice of a row was read
 pub record SlicePassed (old : Pass) (s : Sequence) (p : Open) (row : ℕ) (u : List ℕ) (end : SliceEnd) (new : Pass) : Type 0 where
-  pub slice : Slice
-  pub rest : List Bool
-  pub read : (slice_at (slice_setup old.state s p) p.covered row).read (body u) ≡ Ok (slice, rest)
-  pub covered : end.covered ≡ slice.covered
-  pub large : end.large ≡ large_in slice
-  pub most : end.covered ≤ 2 ^ 16
-  pub few : p.covered + end.large ≤ end.covered
+  pub told : SliceRead old.state s p row u end
+  pub open told use *
   pub state : new.state ≡ old.state
   pub tells : Tells old [] new
 
 -- that, or the fault in the slice
 abbrev pub ReadsSlice : Pass → Sequence → Open → ℕ → List ℕ → Units → Result SliceEnd Stop → Pass → Type 0
 ReadsSlice old s p row u units (Ok end) new = SlicePassed old s p row u end new
-ReadsSlice old s p row u units (Err e) new =
-    (left : ℕ) × ((slice_at (slice_setup old.state s p) p.covered row).read (body u) ≡ Err (e.kind, left)) × (e.left ≡ left + unit_bits units)
+ReadsSlice old s p row u units (Err e) new = SliceBroken old.state s p row u units e
 
 -- what a round among the units answers: whether another follows
 abbrev pub Rounds : Pass → Result Bool Halt → Pass → Units → Result ((Bool × Part) × Units) (FaultKind × ℕ) → Type 0
-Rounds old (Ok more) new rest read = (p : Part) × (read ≡ Ok ((more, p), rest)) × Passes old p new × (more ≡ false → new.state.picture ≡ None)
-Rounds old (Err Memory) new rest read = Unit {0}
-Rounds old (Err (Fault stop)) new rest read = read ≡ Err (stop.kind, stop.left)
+Rounds old result new rest read = RoundsBy (λ (p : Part). Passes old p new) new.state result rest read
 
 -- where no picture is open, none is predicted from
 abbrev pub Rests : State → Store → Type 0
 Rests st store = st.picture ≡ None → store.references ≡ no_references
+
+-- units told these events, with these frames at hand before and behind them
+pub record ToldWith (store : Store) (old : Pass) (events : Events) (behind : Store) (new : Pass) : Type 0 where
+  pub tells : Tells old events new
+  -- before the first sequence header no picture is told
+  pub none : new.state.first ≡ None → pictures_in events ≡ []
+  pub rests : Rests old.state store → Rests new.state behind
 
 -- all units of a piece were read, with these frames at hand
 pub record ReadsWith (store : Store) (old : Pass) (us : Units) (new : Pass) : Type 0 where
   pub events : Events
   pub behind : Store
   pub read : units_read (record { state = old.state; store = store }) us ≡ Ok (events, record { state = new.state; store = behind })
-  pub tells : Tells old events new
+  pub told : ToldWith store old events behind new
+  pub open told use *
   pub few : length (pictures_in events) ≤ length us + 1
-  -- before the first sequence header no picture is told
-  pub none : new.state.first ≡ None → pictures_in events ≡ []
-  pub rests : Rests old.state store → Rests new.state behind
 
 -- all units of a piece were read, and no picture is open
 pub record ReadsAll (old : Pass) (us : Units) (new : Pass) : Type 0 where

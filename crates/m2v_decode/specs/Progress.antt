@@ -1,5 +1,5 @@
 -- Decoding under way: what stands between two pieces.
-use Rattle.std.specs.Prelude.{◌≡◌, ℕ, ◌+◌, ◌<◌, ◌≤◌, Bool, true, false, List, [], ◌++◌, length, map, Some, None, Err}
+use Rattle.std.specs.Prelude.{◌≡◌, ℕ, ◌+◌, ◌<◌, ◌≤◌, Bool, true, false, List, [], ◌++◌, length, map, Option, Some, None, Err}
 use Rattle.m2v_port.specs.Ends.{Change}
 use Rattle.m2v_port.specs.Port.{Moves, Grows, GrowsByPrefix}
 use Rattle.m2v_plane.specs.Samples.{Samples}
@@ -31,15 +31,20 @@ Cuts bytes held errors.TooLong = ⊥
 Cuts bytes held errors.PictureTooLarge = ⊥
 Cuts bytes held errors.Memory = GrowsByPrefix held.old bytes held.new
 
--- the frames that were due were handed out
-pub record HasPut (old new : Decoding) : Type 0 where
-  pub none : due_of new ≡ []
+-- frames were handed out: all else stays
+pub record Stays (old new : Decoding) : Type 0 where
   pub between_is : between new ≡ between old
   pub anchor : old.ended ≡ false → new.anchor ≡ old.anchor
   pub ended : new.ended ≡ old.ended
   pub failed : new.failed ≡ old.failed
   pub pictures : new.pictures ≡ old.pictures
   pub dropped : new.dropped ≡ old.dropped
+
+-- the frames that were due were handed out
+pub record HasPut (old new : Decoding) : Type 0 where
+  pub none : due_of new ≡ []
+  pub stays : Stays old new
+  pub open stays use *
   pub shown : new.shown ≡ old.shown + length (due_of old)
 
 -- the first pieces of the text were read, which lie in its first bytes, and the frames due from them written
@@ -52,16 +57,21 @@ pub record Reached (taken : ℕ) (text : List ℕ) (start : ℕ) (others : List 
   pub counted : d.pictures ≡ length (pictures_in events)
   pub dropped : d.dropped ≡ dropped_in (pictures_in events)
 
--- bytes were read and frames written
-pub record Progress (left held : Change) (c : Cutting) (d : Decoding) : Type 0 where
-  pub bytes : List ℕ
-  pub moved : Moves left.old bytes left.new
+-- the frames that a decoder handed out were written, and none of them is due
+pub record Written (held held_then : Option (List ℕ)) (d : Decoding) : Type 0 where
   pub frames : List Samples
-  pub grown : Grows held.old (raw_of frames) held.new
+  pub grown : Grows held (raw_of frames) held_then
   pub shown : d.shown ≡ length frames
   pub none : d.ready ≡ []
   pub going : d.ended ≡ false
   pub sound : d.failed ≡ false
+
+-- bytes were read and frames written
+pub record Progress (left held : Change) (c : Cutting) (d : Decoding) : Type 0 where
+  pub bytes : List ℕ
+  pub moved : Moves left.old bytes left.new
+  pub written : Written held.old held.new d
+  pub open written use *
   pub taken : (rest : List ℕ) → left.new ≡ Some rest → c.place + length c.unread ≤ length bytes
   pub told : (rest : List ℕ) → left.new ≡ Some rest → Reached (length bytes) (bytes ++ rest) (start_of_rest c rest) (left_of c rest) frames d
 
@@ -69,12 +79,8 @@ pub record Progress (left held : Change) (c : Cutting) (d : Decoding) : Type 0 w
 pub record IsDone (left held : Change) (c : Cutting) (d : Decoding) : Type 0 where
   pub bytes : List ℕ
   pub moved : Moves left.old bytes left.new
-  pub frames : List Samples
-  pub grown : Grows held.old (raw_of frames) held.new
-  pub shown : d.shown ≡ length frames
-  pub none : d.ready ≡ []
-  pub going : d.ended ≡ false
-  pub sound : d.failed ≡ false
+  pub written : Written held.old held.new d
+  pub open written use *
   pub over : c.ended ≡ true
   pub most : c.place ≤ most_input
   pub told : (rest : List ℕ) → left.new ≡ Some rest → Reached (length bytes) (bytes ++ rest) c.place [] frames d

@@ -42,22 +42,11 @@ pub struct Decoder {
 
 impl Model for Decoder {
     ghost use Rattle.m2v_decode.specs.Decoding.{Decoding};
-    ghost use Rattle.m2v_decode.specs.Course.{IsSoundDecoder};
+    ghost use Rattle.m2v_decode.specs.Course.{IsSoundDecoder, seen_as};
 
     ghost Value = { Decoding };
 
-    ghost view = { λ d. record {
-      state = d.course.state;
-      frames = d.course.gallery;
-      anchor = d.course.queue.anchor;
-      ready = d.course.ready.items;
-      ended = d.ended;
-      failed = d.failed;
-      skims = d.skims;
-      pictures = d.course.pictures;
-      dropped = d.course.dropped;
-      shown = d.course.shown;
-    } };
+    ghost view = { λ d. seen_as d.course d.ended d.failed d.skims };
 
     ghost invariant = { λ d. IsSoundDecoder d.course d.failed d.skims };
 }

@@ -3,7 +3,7 @@ use Rattle.std.proofs.Common.{ℕ, ◌+◌, ◌≤◌, length, arith, List, [], 
 use Rattle.m2v_dec_piece.specs.Cutting.{Held, Fits, PieceStops, pieces_behind, start_behind, taken_by}
 use Rattle.m2v_dec_piece.specs.declared.taking.Byte.{Byte}
 use Rattle.m2v_dec_piece.specs.Stepping.{Takes, IsWhole, IsLast}
-use Rattle.m2v_dec_piece.proofs.Stands.{by_first, whole_stood, last_stood, reading_stops}
+use Rattle.m2v_dec_piece.proofs.Stands.{by_first, whole_stood, last_stood, stops_why}
 use Rattle.m2v_dec_piece.proofs.cutter.turn.Goals as goal
 
 pub returns-in-Err-clause-err : goal.returns-in-Err-clause-err
@@ -13,7 +13,7 @@ returns-in-Err-clause-err c rest =
     subst (λ (t : List ℕ). PieceStops (start_behind h t) (pieces_behind h t) c.in-Err.e) (by_first chunk rest c.first-b.result c.requires.some c.first-b.ensures) (c.in-Err.ensures.err (drop 1 chunk ++ rest))
 
 pub returns-in-Err-clause-kind : goal.returns-in-Err-clause-kind
-returns-in-Err-clause-kind c = reading_stops _ _ c.in-Err.e (c.in-Err.ensures.err [])
+returns-in-Err-clause-kind c = (stops_why _ _ c.in-Err.e (c.in-Err.ensures.err [])).1
 
 pub returns-in-Ok-Whole-clause-ok : goal.returns-in-Ok-Whole-clause-ok
 returns-in-Ok-Whole-clause-ok c =

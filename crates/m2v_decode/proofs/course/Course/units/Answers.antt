@@ -9,7 +9,7 @@ loop-init c = record { sound = c.requires.sound; so_far = so_far_none _ _ }
 pub returns-in_err-unit-clause-err : goal.returns-in_err-unit-clause-err
 returns-in_err-unit-clause-err c =
     let p = err_from_is_err_and c.from_residual.result c.from_residual.ensures.1 in
-    rw (p.1, p.2) (stopped _ _ _ _ _ _ _ c.loop.invariant.so_far c.in_err-unit.ensures)
+    rw (p.1, p.2) (stopped _ _ c.unit.new.self _ _ _ _ c.loop.invariant.so_far c.in_err-unit.ensures)
 
 pub loop-smaller : goal.loop-smaller
 loop-smaller c =
