@@ -72,29 +72,16 @@ PartsAlike w c u p q = (q ≡ p) ⊎ IsLeftSlice w c u p q
 
 -- a picture has the anchor that it needs in the cut
 abbrev pub HasAnchor : State → Part → Type 0
-HasAnchor c (sequence s) = Unit {0}
-HasAnchor c (group g) = Unit {0}
 HasAnchor c (picture info extension) = has_anchor c info ≡ true
-HasAnchor c (matrices m) = Unit {0}
-HasAnchor c (slice row x) = Unit {0}
-HasAnchor c (unread_slice row u) = Unit {0}
-HasAnchor c (skipped_unit u) = Unit {0}
-HasAnchor c ending = Unit {0}
-HasAnchor c over = Unit {0}
+HasAnchor c _ = Unit {0}
 
 -- what is known of a part of the whole that was read: a picture is the second field, where one is due, and has the anchor
 -- that it needs; the macroblocks of an I picture are intra
 abbrev pub Knows : State → Part → Type 0
-Knows w (sequence s) = Unit {0}
-Knows w (group g) = Unit {0}
 Knows w (picture info extension) = (is_second_field_due w.waiting info extension ≡ true) × (has_anchor w info ≡ true)
-Knows w (matrices m) = Unit {0}
 Knows w (slice row x) = (s : Sequence) (o : Open) → w.sequence ≡ Some s → w.picture ≡ Some o → o.info.kind ≡ 1
     → AreStill (slice_setup w s o) (slice_start (slice_setup w s o).context row o.covered x.info.quantiser) x.macroblocks
-Knows w (unread_slice row u) = Unit {0}
-Knows w (skipped_unit u) = Unit {0}
-Knows w ending = Unit {0}
-Knows w over = Unit {0}
+Knows w _ = Unit {0}
 
 -- ---- questions
 
@@ -135,21 +122,21 @@ FollowsOn w c u s z = (x : Bool × Part) (t rest : Units) → s.Stands x t rest 
 abbrev Needs : State → State → Part → Type 0
 Needs w c p = Knows w p → HasAnchor c p
 
-onward_follows : (w c : State) (u : List ℕ) (s z : Among Part) → Follows w c u s z → FollowsOn w c u (onward s) (onward z)
-unfolding onward seq done
-onward_follows w c u s z f x t rest h k =
+gone_follows : (w c : State) (u : List ℕ) (b : Bool) (s z : Among Part) → Follows w c u s z → FollowsOn w c u (seq s (λ p. done (b, p))) (seq z (λ p. done (b, p)))
+unfolding seq done
+gone_follows w c u b s z f x t rest h k =
     let own : x.1 ≡ h.0 = ap (λ (y : Bool × Part). y.1) h.3.0 in
-    let go : x.0 ≡ true = ap (λ (y : Bool × Part). y.0) h.3.0 in
+    let go : x.0 ≡ b = ap (λ (y : Bool × Part). y.0) h.3.0 in
     let g = f h.0 t h.1 h.2 (subst (Needs w c) own k) in
-    (g.0, subst (λ (p : Part). Reading w c u p g.0) (sym own) g.1, (g.0, h.1, g.2, (ap (λ (b : Bool). (b, g.0)) go, h.3.1)))
+    (g.0, subst (λ (p : Part). Reading w c u p g.0) (sym own) g.1, (g.0, h.1, g.2, (ap (λ (y : Bool). (y, g.0)) go, h.3.1)))
+
+onward_follows : (w c : State) (u : List ℕ) (s z : Among Part) → Follows w c u s z → FollowsOn w c u (onward s) (onward z)
+unfolding onward
+onward_follows w c u s z f = gone_follows w c u true s z f
 
 final_follows : (w c : State) (u : List ℕ) (s z : Among Part) → Follows w c u s z → FollowsOn w c u (final s) (final z)
-unfolding final seq done
-final_follows w c u s z f x t rest h k =
-    let own : x.1 ≡ h.0 = ap (λ (y : Bool × Part). y.1) h.3.0 in
-    let go : x.0 ≡ false = ap (λ (y : Bool × Part). y.0) h.3.0 in
-    let g = f h.0 t h.1 h.2 (subst (Needs w c) own k) in
-    (g.0, subst (λ (p : Part). Reading w c u p g.0) (sym own) g.1, (g.0, h.1, g.2, (ap (λ (b : Bool). (b, g.0)) go, h.3.1)))
+unfolding final
+final_follows w c u s z f = gone_follows w c u false s z f
 
 choose_follows : (w c : State) (u : List ℕ) (a b : Bool) (s z v x : Among (Bool × Part)) → a ≡ b → FollowsOn w c u s z → FollowsOn w c u v x → FollowsOn w c u (choose a s v) (choose b z x)
 unfolding choose
@@ -181,17 +168,11 @@ skipped_on w c u x t rest h k = (x.1, (inl refl, subst (λ (y : Bool × Part). K
 
 sequence_follows : (w c : State) (start : ℕ) (u : List ℕ) → AreAlike w c → Follows w c u (sequence_unit w start u) (sequence_unit c start u)
 unfolding sequence_unit close no_second_field_due seq rule done
-sequence_follows w c start u a p t rest h k =
-    let l1 = h.3 in
-    let l2 = l1.3 in
-    let l3 = l2.3 in
-    let l4 = l3.3 in
-    let l5 = l4.3 in
-    let l6 = l5.3 in
-    let waits : none_waits c.waiting ≡ true = ap none_waits (sym a.waiting) ∙ l1.2.0 in (
+sequence_follows w c start u a p t rest (i, t0, ended, (j, t1, paired, (info, t2, own, (next, t3, at, (v, t4, there, (x, t5, read, (l, t6, same, is))))))) k =
+    let waits : none_waits c.waiting ≡ true = ap none_waits (sym a.waiting) ∙ paired.0 in (
       p,
-      (inl refl, subst (Knows w) (sym l6.3.0) tt),
-      (h.0, h.1, (closes w c a h.2.0, h.2.1), (l1.0, l1.1, (waits, l1.2.1), (l2.0, l2.1, l2.2, (l3.0, l3.1, l3.2, (l4.0, l4.1, l4.2, (l5.0, l5.1, l5.2, (l6.0, l6.1, (same_first w c a _ l6.2.0, l6.2.1), l6.3))))))),
+      (inl refl, subst (Knows w) (sym is.0) tt),
+      (i, t0, (closes w c a ended.0, ended.1), (j, t1, (waits, paired.1), (info, t2, own, (next, t3, at, (v, t4, there, (x, t5, read, (l, t6, (same_first w c a _ same.0, same.1), is))))))),
     )
 
 group_follows : (w c : State) (start : ℕ) (u : List ℕ) → AreAlike w c → Follows w c u (group_unit w start u) (group_unit c start u)
@@ -210,20 +191,14 @@ end_follows w c start u a p t rest h k =
 
 picture_follows : (w c : State) (start : ℕ) (u : List ℕ) → AreAlike w c → Follows w c u (picture_unit w start u) (picture_unit c start u)
 unfolding picture_unit close seq rule done
-picture_follows w c start u a p t rest h k =
-    let l1 = h.3 in
-    let l2 = l1.3 in
-    let l3 = l2.3 in
-    let l4 = l3.3 in
-    let l5 = l4.3 in
-    let l6 = l5.3 in
-    let extension = subst (λ (s : Option Sequence). (extension_behind 8 l3.0 l2.0 (whole_header (picture_extension_in (is_progressive s) l1.0))).Stands l4.0 l3.1 l4.1) a.sequence l4.2 in
-    let pair : is_second_field_due c.waiting l1.0 l4.0 ≡ true = ap (λ (f : Option FirstField). is_second_field_due f l1.0 l4.0) (sym a.waiting) ∙ l5.2.0 in
-    let knows : Knows w (picture l1.0 l4.0) = (l5.2.0, l6.2.0) in
-    let anchor : has_anchor c l1.0 ≡ true = subst (Needs w c) l6.3.0 k knows in (
+picture_follows w c start u a p t rest (i, t0, ended, (info, t1, own, (next, t2, at, (v, t3, there, (x, t4, read, (j, t5, due, (l, t6, anchored, is))))))) k =
+    let extension = subst (λ (s : Option Sequence). (extension_behind 8 v next (whole_header (picture_extension_in (is_progressive s) info))).Stands x t3 t4) a.sequence read in
+    let pair : is_second_field_due c.waiting info x ≡ true = ap (λ (f : Option FirstField). is_second_field_due f info x) (sym a.waiting) ∙ due.0 in
+    let knows : Knows w (picture info x) = (due.0, anchored.0) in
+    let anchor : has_anchor c info ≡ true = subst (Needs w c) is.0 k knows in (
       p,
-      (inl refl, subst (Knows w) (sym l6.3.0) knows),
-      (h.0, h.1, (closes w c a h.2.0, h.2.1), (l1.0, l1.1, l1.2, (l2.0, l2.1, l2.2, (l3.0, l3.1, l3.2, (l4.0, l4.1, extension, (l5.0, l5.1, (pair, l5.2.1), (l6.0, l6.1, (anchor, l6.2.1), l6.3))))))),
+      (inl refl, subst (Knows w) (sym is.0) knows),
+      (i, t0, (closes w c a ended.0, ended.1), (info, t1, own, (next, t2, at, (v, t3, there, (x, t4, extension, (j, t5, (pair, due.1), (l, t6, (anchor, anchored.1), is))))))),
     )
 
 matrix_follows : (w c : State) (start : ℕ) (u : List ℕ) → AreAlike w c → Follows w c u (matrix_unit w start u) (matrix_unit c start u)
@@ -329,15 +304,8 @@ known_follows w c start value u a =
 
 -- the pictures that begin are alike
 abbrev pub BeginAlike : State → State → Part → Type 0
-BeginAlike w c (sequence s) = Unit {0}
-BeginAlike w c (group g) = Unit {0}
 BeginAlike w c (picture info extension) = OpenAlike (Some (opened w info extension)) (Some (opened c info extension))
-BeginAlike w c (matrices m) = Unit {0}
-BeginAlike w c (slice row x) = Unit {0}
-BeginAlike w c (unread_slice row u) = Unit {0}
-BeginAlike w c (skipped_unit u) = Unit {0}
-BeginAlike w c ending = Unit {0}
-BeginAlike w c over = Unit {0}
+BeginAlike w c _ = Unit {0}
 
 sliced_left : (p q : Open) (row covered large : ℕ) (same : Bool) → nat_eq row p.row ≡ same → IsLeftOut p q → OpenAlike (with_slice (Some p) row covered large) (with_slice (Some q) row covered large)
 sliced_left p q row covered large true e l =

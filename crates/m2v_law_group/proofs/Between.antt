@@ -9,8 +9,8 @@ use Rattle.m2v_model.specs.declared.state.Open.{Open}
 use Rattle.m2v_model.specs.declared.state.State.{State}
 use Rattle.m2v_model.specs.Units.{Units, unit_bits}
 use Rattle.m2v_model.specs.States.{none_waits}
-use Rattle.m2v_model.specs.Streams.{Part, Among, sequence, group, picture, matrices, slice, unread_slice, skipped_unit, ending, over, after, value_of, onward, final, later_unit, known_unit}
-use Rattle.m2v_model.specs.Pictures.{Store, Pictures, Events, sequence_header, group_header, pictures_in, closed, store_after, events_from, store_from}
+use Rattle.m2v_model.specs.Streams.{Part, Among, sequence, group, picture, ending, over, after, value_of, onward, final, later_unit, known_unit}
+use Rattle.m2v_model.specs.Pictures.{Store, Pictures, Event, Events, sequence_header, group_header, pictures_in, closed, store_after, events_from, store_from}
 use Rattle.m2v_model.specs.Pieces.{is_end, begins_piece}
 use Rattle.m2v_model.specs.ByPieces.{unit_read}
 use Rattle.m2v_model.proofs.EventLaws.{pictures_in-append}
@@ -66,15 +66,9 @@ final_only {st} {us = u ∷ us} (going {mid = mid} {p = p} e later) b k = absurd
 
 final_waits : (st : State) (p : Part) → IsFinal p → (after st p).waiting ≡ st.waiting
 unfolding after
-final_waits st (sequence s) f = absurd f
-final_waits st (group g) f = absurd f
-final_waits st (picture info extension) f = absurd f
-final_waits st (matrices m) f = absurd f
-final_waits st (slice row x) f = absurd f
-final_waits st (unread_slice row u) f = absurd f
-final_waits st (skipped_unit u) f = absurd f
 final_waits st ending f = refl
 final_waits st over f = refl
+final_waits st _ f = absurd f
 
 -- the first unit, where there is one, is no picture
 abbrev pub OtherFirst : Units → Type 0
@@ -95,25 +89,24 @@ other_piece : (u : List ℕ) → is_sequence u ≡ false → is_group u ≡ fals
 unfolding begins_piece is_end
 other_piece u a b c d = rw (a, b, c, d) refl
 
+-- a header, of which nothing is told but itself
+header_by : (z y : State) (zs : Store) (p : Part) (e : Event) (mid : Units) (later : List Part) → (after z p).picture ≡ None → pictures_in (e ∷ []) ≡ [] → NoPictures later → Run (after z p) mid later y []
+    → pictures_in ((closed z.picture zs ++ e ∷ []) ++ events_from (after z p) (store_after z zs p) later) ++ pictures_in (closed y.picture (store_from (after z p) (store_after z zs p) later)) ≡ pictures_in (closed z.picture zs) ++ []
+header_by z y zs p e mid later none silent n run =
+    let q = quiet run (store_after z zs p) none n in
+    let before = closed z.picture zs in
+    let rest = events_from (after z p) (store_after z zs p) later in
+    let told : pictures_in ((before ++ e ∷ []) ++ rest) ≡ pictures_in before =
+    pictures_in-append (before ++ e ∷ []) rest ∙ ap (λ (l : Pictures). pictures_in (before ++ e ∷ []) ++ l) q.told ∙ append-nil _
+    ∙ pictures_in-append before (e ∷ []) ∙ ap (λ (l : Pictures). pictures_in before ++ l) silent ∙ append-nil _ in
+    ap (λ (l : Pictures). l ++ pictures_in (closed y.picture (store_from (after z p) (store_after z zs p) later))) told
+    ∙ ap (λ (o : Option Open). pictures_in before ++ pictures_in (closed o (store_from (after z p) (store_after z zs p) later))) q.picture
+
 heads_by : (z y : State) (zs : Store) (u : List ℕ) (us mid : Units) (p : Part) (later : List Part) → PartOf u us p mid → begins_piece (value_of u) ≡ true → is_end (value_of u) ≡ false → NoPictures (p ∷ later) → Run (after z p) mid later y []
     → pictures_in (events_from z zs (p ∷ later)) ++ pictures_in (closed y.picture (store_from z zs (p ∷ later))) ≡ pictures_in (closed z.picture zs) ++ []
 unfolding events_from store_from after
-heads_by z y zs u us mid p later (of_sequence {s = s} v on e value) b off n run =
-    let q = quiet run (store_after z zs (sequence s)) refl n in
-    let rest = events_from (after z (sequence s)) (store_after z zs (sequence s)) later in
-    let told : pictures_in ((closed z.picture zs ++ sequence_header s ∷ []) ++ rest) ≡ pictures_in (closed z.picture zs) =
-    pictures_in-append (closed z.picture zs ++ sequence_header s ∷ []) rest ∙ ap (λ (l : Pictures). pictures_in (closed z.picture zs ++ sequence_header s ∷ []) ++ l) q.told ∙ append-nil _
-    ∙ pictures_in-append (closed z.picture zs) (sequence_header s ∷ []) ∙ append-nil _ in
-    ap (λ (l : Pictures). l ++ pictures_in (closed y.picture (store_from (after z (sequence s)) (store_after z zs (sequence s)) later))) told
-    ∙ ap (λ (o : Option Open). pictures_in (closed z.picture zs) ++ pictures_in (closed o (store_from (after z (sequence s)) (store_after z zs (sequence s)) later))) q.picture
-heads_by z y zs u us mid p later (of_group {g = g} end on stands e) b off n run =
-    let q = quiet run (store_after z zs (group g)) refl n in
-    let rest = events_from (after z (group g)) (store_after z zs (group g)) later in
-    let told : pictures_in ((closed z.picture zs ++ group_header g ∷ []) ++ rest) ≡ pictures_in (closed z.picture zs) =
-    pictures_in-append (closed z.picture zs ++ group_header g ∷ []) rest ∙ ap (λ (l : Pictures). pictures_in (closed z.picture zs ++ group_header g ∷ []) ++ l) q.told ∙ append-nil _
-    ∙ pictures_in-append (closed z.picture zs) (group_header g ∷ []) ∙ append-nil _ in
-    ap (λ (l : Pictures). l ++ pictures_in (closed y.picture (store_from (after z (group g)) (store_after z zs (group g)) later))) told
-    ∙ ap (λ (o : Option Open). pictures_in (closed z.picture zs) ++ pictures_in (closed o (store_from (after z (group g)) (store_after z zs (group g)) later))) q.picture
+heads_by z y zs u us mid p later (of_sequence {s = s} v on e value) b off n run = header_by z y zs (sequence s) (sequence_header s) mid later refl refl n run
+heads_by z y zs u us mid p later (of_group {g = g} end on stands e) b off n run = header_by z y zs (group g) (group_header g) mid later refl refl n run
 heads_by z y zs u us mid p later (of_picture v on e value kind structure) b off n run = absurd n
 heads_by z y zs u us mid p later (of_other c d f o e) b off n run = absurd (both_ways _ (other_piece u c d f off) b)
 

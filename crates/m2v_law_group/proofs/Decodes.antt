@@ -1,8 +1,9 @@
 -- A cut of a stream decodes to the frames of its groups.
 use Rattle.std.proofs.Common.{◌≡◌, ℕ, zero, suc, ◌+◌, ◌≤◌, Bool, true, false, List, [], ◌∷◌, ◌++◌, length, Option, Some, None, refl, sym, ap, subst, ◌∙◌, append_assoc, append-nil, arith}
-use Rattle.std.specs.Prelude.{nat_eq, not, ◌&&◌, ◌||◌, if◌then◌else◌}
+use Rattle.std.specs.Prelude.{nat_eq, not, ◌||◌, if◌then◌else◌}
 use Rattle.std.specs.List.{flat_map}
 use Rattle.std.proofs.lemmas.Bool.{eqb-true, leb-true}
+use Rattle.std.proofs.Math.Bool.{and-false, or-true}
 use Rattle.m2v_bits.specs.Syntax.{seq, done, rule, repeated}
 use Rattle.m2v_bits.proofs.SyntaxLaws.{good}
 use Rattle.m2v_model.specs.declared.state.Sequence.{Sequence}
@@ -165,15 +166,7 @@ from_first g later m on = rw on refl
 
 piece_first : (g : List ℕ) (us : Units) → has_picture us ≡ true → up_to_piece (g ∷ us) ≡ g ∷ up_to_piece us
 unfolding up_to_piece has_picture
-piece_first g us h = rw (h, all_on (is_picture g), none_on (begins_piece (value_of g))) refl
-  where
-    all_on : (a : Bool) → (a || true) ≡ true
-    all_on true = refl
-    all_on false = refl
-
-    none_on : (a : Bool) → (a && false) ≡ false
-    none_on true = refl
-    none_on false = refl
+piece_first g us h = rw (h, or-true (is_picture g), and-false (begins_piece (value_of g))) refl
 
 first_is : (g : List ℕ) (later : Units) (m : ℕ) (r : Units) → is_group g ≡ true → from_group m later ≡ r → first_groups (suc m) (g ∷ later) ≡ up_to_group (g ∷ before_group m later) r
 first_is g later m r on e = ap (λ (l : Units). up_to_group l (from_group (suc m) (g ∷ later))) (before_first g later m on) ∙ ap (up_to_group (g ∷ before_group m later)) (from_first g later m on ∙ e)

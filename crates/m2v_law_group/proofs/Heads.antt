@@ -261,14 +261,7 @@ changed_bits a b c d bs front x y rest e long =
 -- a header with so many bytes, as it is changed
 header_changed : (u : List ℕ) (front : List Bool) (x y : Bool) (rest : List Bool) → 8 ≤ length u → body u ≡ front ++ x ∷ y ∷ rest → length front ≡ 25 → body (broken_header u) ≡ front ++ false ∷ true ∷ rest
 header_changed (u0 ∷ u1 ∷ u2 ∷ u3 ∷ a ∷ b ∷ c ∷ d ∷ bs) front x y rest le e long = changed_bits a b c d bs front x y rest e long
-header_changed [] front x y rest le e long = absurd (omega arith)
-header_changed (a ∷ []) front x y rest le e long = absurd (omega arith)
-header_changed (a ∷ b ∷ []) front x y rest le e long = absurd (omega arith)
-header_changed (a ∷ b ∷ c ∷ []) front x y rest le e long = absurd (omega arith)
-header_changed (a ∷ b ∷ c ∷ d ∷ []) front x y rest le e long = absurd (omega arith)
-header_changed (a ∷ b ∷ c ∷ d ∷ f ∷ []) front x y rest le e long = absurd (omega arith)
-header_changed (a ∷ b ∷ c ∷ d ∷ f ∷ g ∷ []) front x y rest le e long = absurd (omega arith)
-header_changed (a ∷ b ∷ c ∷ d ∷ f ∷ g ∷ h ∷ []) front x y rest le e long = absurd (omega arith)
+header_changed _ front x y rest le e long = absurd (omega arith)
 
 -- a group header that is changed says that its group isn't closed, and all else that it said
 pub broken_stands : (u : List ℕ) (g : GroupInfo) (end : List Bool) → 8 ≤ length u → (whole_header group_in).Stands g (body u) end → (whole_header group_in).Stands (record g { closed_gop = false; broken_link = true }) (body (broken_header u)) []

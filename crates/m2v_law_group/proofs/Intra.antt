@@ -71,32 +71,22 @@ macroblock_still : (s : SliceSetup) (st : SliceState) (x : Macroblock) (t rest :
 unfolding macroblock_at seq done renamed
 macroblock_still s st x t rest one h = subst (λ (y : Macroblock). IsStill st y.syntax) (sym h.3.3.3.3.3.0) (macro_still s.context st h.3.0 h.1 h.3.1 one h.3.2)
 
--- what a round adds
-record Adds (s : SliceSetup) (r z : Row) : Type 0 where
-  x : Macroblock
-  still : IsStill r.state x.syntax
-  state : z.state ≡ after_macroblock s.context r.state x
-  macroblocks : z.macroblocks ≡ r.macroblocks ++ x ∷ []
-
-round_adds : (s : SliceSetup) (r z : Row) (b : Bool) (t rest : List Bool) → s.context.kind ≡ 1 → (macroblock_round s r).Stands (b, z) t rest → Adds s r z
+-- a round adds a macroblock
+round_adds : (s : SliceSetup) (r z : Row) (b : Bool) (t rest : List Bool) → s.context.kind ≡ 1 → (macroblock_round s r).Stands (b, z) t rest
+    → (x : Macroblock) × IsStill r.state x.syntax × (z.state ≡ after_macroblock s.context r.state x) × (z.macroblocks ≡ r.macroblocks ++ x ∷ [])
 unfolding macroblock_round seq done
 round_adds s r z b t rest one h =
     let is = ap (λ (y : Bool × Row). y.1) h.3.3.3.3.0 in
-    record {
-      x = h.3.0;
-      still = macroblock_still s r.state h.3.0 h.1 h.3.1 one h.3.2;
-      state = ap (λ (y : Row). y.state) is;
-      macroblocks = ap (λ (y : Row). y.macroblocks) is;
-    }
+    (h.3.0, macroblock_still s r.state h.3.0 h.1 h.3.1 one h.3.2, ap (λ (y : Row). y.state) is, ap (λ (y : Row). y.macroblocks) is)
 
 rounds_still : (s : SliceSetup) (r z : Row) (t rest : List Bool) → s.context.kind ≡ 1 → Rounds (macroblock_round s) r z t rest → (xs : List Macroblock) × (z.macroblocks ≡ r.macroblocks ++ xs) × AreStill s r.state xs
-rounds_still s r z t rest one (last h) = let a = round_adds s r z false _ _ one h in (a.x ∷ [], a.macroblocks, (a.still, tt))
+rounds_still s r z t rest one (last h) = let a = round_adds s r z false _ _ one h in (a.0 ∷ [], a.3, (a.1, tt))
 rounds_still s r z t rest one (more {m = m} h later) =
     let a = round_adds s r m true _ _ one h in
     let i = rounds_still s m z _ _ one later in (
-      a.x ∷ i.0,
-      i.1 ∙ ap (λ (l : List Macroblock). l ++ i.0) a.macroblocks ∙ append_assoc r.macroblocks (a.x ∷ []) i.0,
-      (a.still, subst (λ (st : SliceState). AreStill s st i.0) a.state i.2),
+      a.0 ∷ i.0,
+      i.1 ∙ ap (λ (l : List Macroblock). l ++ i.0) a.3 ∙ append_assoc r.macroblocks (a.0 ∷ []) i.0,
+      (a.1, subst (λ (st : SliceState). AreStill s st i.0) a.2 i.2),
     )
 
 -- a slice of an I picture

@@ -201,11 +201,11 @@ tail_none : (u : List ℕ) (us : Units) → has_picture (u ∷ us) ≡ false →
 unfolding has_picture
 tail_none u us n = (or_parts (is_picture u) (has_picture us) n).1
 
-sequence_events : (a : State) (sa : Store) (s : Sequence) (ps : List Part) → events_from a sa (sequence s ∷ ps) ≡ (closed a.picture sa ++ sequence_header s ∷ []) ++ events_from (after a (sequence s)) (picture_ended a.picture sa) ps
+pub sequence_events : (a : State) (sa : Store) (s : Sequence) (ps : List Part) → events_from a sa (sequence s ∷ ps) ≡ (closed a.picture sa ++ sequence_header s ∷ []) ++ events_from (after a (sequence s)) (picture_ended a.picture sa) ps
 unfolding events_from
 sequence_events a sa s ps = refl
 
-sequence_store : (a : State) (sa : Store) (s : Sequence) (ps : List Part) → store_from a sa (sequence s ∷ ps) ≡ store_from (after a (sequence s)) (picture_ended a.picture sa) ps
+pub sequence_store : (a : State) (sa : Store) (s : Sequence) (ps : List Part) → store_from a sa (sequence s ∷ ps) ≡ store_from (after a (sequence s)) (picture_ended a.picture sa) ps
 unfolding store_from
 sequence_store a sa s ps = refl
 

@@ -8,12 +8,12 @@ use Rattle.m2v_model.specs.declared.state.State.{State}
 use Rattle.m2v_model.specs.Units.{Units, body}
 use Rattle.m2v_model.specs.Looking.{number_from}
 use Rattle.m2v_model.specs.States.{is_frame}
-use Rattle.m2v_model.specs.Streams.{Part, sequence, group, picture, matrices, slice, unread_slice, skipped_unit, ending, over, after, value_of}
+use Rattle.m2v_model.specs.Streams.{Part, sequence, group, picture, after, value_of}
 use Rattle.m2v_model.specs.ByPieces.{unit_read}
-use Rattle.m2v_model.proofs.SplitLaws.{IsKnown, known_after}
+use Rattle.m2v_model.proofs.SplitLaws.{IsKnown, known_after, IsOther, other_by}
 use Rattle.m2v_law_group.specs.Groups.{is_picture, is_sequence, is_group, has_picture, has_sequence, group_headers, before_group, is_number, is_intra, is_coding_extension, structure_of, next_unit, coded_pictures, is_intra_of, begins_with, begins_intra}
 use Rattle.m2v_law_group.proofs.Runs.{Run, stop, step, none_ends}
-use Rattle.m2v_law_group.proofs.Parts.{IsOther, PartOf, of_sequence, of_group, of_picture, of_other, part_of}
+use Rattle.m2v_law_group.proofs.Parts.{PartOf, of_sequence, of_group, of_picture, of_other, part_of}
 use Rattle.m2v_law_group.proofs.Lists.{or_parts, and_parts}
 
 -- ---- the first frame
@@ -113,26 +113,12 @@ lead_units (u ∷ us) h = intra_step u us (is_group u) (is_picture u) refl refl 
 -- the parts' first frame is I, and no group header stands before its end
 abbrev pub Leads : Bool → List Part → Type 0
 Leads second [] = Unit {0}
-Leads second (sequence s ∷ ps) = Leads second ps
 Leads second (group g ∷ ps) = ⊥
 Leads second (picture info extension ∷ ps) = (info.kind ≡ 1) × (second ≡ false → is_frame extension ≡ false → Leads true ps)
-Leads second (matrices m ∷ ps) = Leads second ps
-Leads second (slice row x ∷ ps) = Leads second ps
-Leads second (unread_slice row u ∷ ps) = Leads second ps
-Leads second (skipped_unit u ∷ ps) = Leads second ps
-Leads second (ending ∷ ps) = Leads second ps
-Leads second (over ∷ ps) = Leads second ps
+Leads second (_ ∷ ps) = Leads second ps
 
 other_leads : (second : Bool) (p : Part) (ps : List Part) → IsOther p → Leads second ps → Leads second (p ∷ ps)
-other_leads second (sequence s) ps o h = absurd o
-other_leads second (group g) ps o h = absurd o
-other_leads second (picture info extension) ps o h = absurd o
-other_leads second (matrices m) ps o h = h
-other_leads second (slice row x) ps o h = h
-other_leads second (unread_slice row u) ps o h = h
-other_leads second (skipped_unit u) ps o h = h
-other_leads second ending ps o h = absurd o
-other_leads second over ps o h = absurd o
+other_leads second p ps o h = other_by (λ q. Leads second (q ∷ ps)) (λ m. h) (λ row x. h) (λ row u. h) (λ u. h) p o
 
 -- values that differ
 no_picture_by : (value n : ℕ) → nat_eq value n ≡ true → nat_eq n 0x00 ≡ false → nat_eq value 0x00 ≡ false
@@ -170,30 +156,24 @@ leads_of {st} {us = []} (step e r) k second h = absurd (none_more st _ _ e)
 leads_of {st} {us = u ∷ us} (step {mid = mid} {p = p} {ps = ps} e r) k second h =
     leads_step second u us mid p ps (part_of st u us mid p (inl k) e) h (λ s l. leads_of r (known_after st p k) s l)
 
+-- what no unit has, no part has, if it is so of each
+none_along : {st z : State} {us rest : Units} {ps : List Part} (has : Units → Bool) (Lacks : List Part → Type 0) → Lacks []
+    → ((u : List ℕ) (us mid : Units) (p : Part) (ps : List Part) → PartOf u us p mid → has (u ∷ us) ≡ false → (has mid ≡ false → Lacks ps) → Lacks (p ∷ ps))
+    → Run st us ps z rest → IsKnown st → has us ≡ false → Lacks ps
+none_along has Lacks none each stop k h = none
+none_along {st} {us = []} has Lacks none each (step e r) k h = absurd (none_more st _ _ e)
+none_along {st} {us = u ∷ us} has Lacks none each (step {mid = mid} {p = p} {ps = ps} e r) k h =
+    each u us mid p ps (part_of st u us mid p (inl k) e) h (λ l. none_along has Lacks none each r (known_after st p k) l)
+
 -- ---- no pictures
 
 abbrev pub NoPictures : List Part → Type 0
 NoPictures [] = Unit {0}
-NoPictures (sequence s ∷ ps) = NoPictures ps
-NoPictures (group g ∷ ps) = NoPictures ps
 NoPictures (picture info extension ∷ ps) = ⊥
-NoPictures (matrices m ∷ ps) = NoPictures ps
-NoPictures (slice row x ∷ ps) = NoPictures ps
-NoPictures (unread_slice row u ∷ ps) = NoPictures ps
-NoPictures (skipped_unit u ∷ ps) = NoPictures ps
-NoPictures (ending ∷ ps) = NoPictures ps
-NoPictures (over ∷ ps) = NoPictures ps
+NoPictures (_ ∷ ps) = NoPictures ps
 
 other_pictures : (p : Part) (ps : List Part) → IsOther p → NoPictures ps → NoPictures (p ∷ ps)
-other_pictures (sequence s) ps o h = absurd o
-other_pictures (group g) ps o h = absurd o
-other_pictures (picture info extension) ps o h = absurd o
-other_pictures (matrices m) ps o h = h
-other_pictures (slice row x) ps o h = h
-other_pictures (unread_slice row u) ps o h = h
-other_pictures (skipped_unit u) ps o h = h
-other_pictures ending ps o h = absurd o
-other_pictures over ps o h = absurd o
+other_pictures p ps o h = other_by (λ q. NoPictures (q ∷ ps)) (λ m. h) (λ row x. h) (λ row u. h) (λ u. h) p o
 
 pub pictures_step : (u : List ℕ) (us mid : Units) (p : Part) (ps : List Part) → PartOf u us p mid → has_picture (u ∷ us) ≡ false → (has_picture mid ≡ false → NoPictures ps) → NoPictures (p ∷ ps)
 unfolding has_picture
@@ -205,34 +185,17 @@ pictures_step u us mid p ps (of_picture v on e value kind structure) h ih = absu
 pictures_step u us mid p ps (of_other a b c o e) h ih = other_pictures p ps o (ih (ap has_picture e ∙ (or_parts (is_picture u) (has_picture us) h).1))
 
 pub no_pictures : {st z : State} {us rest : Units} {ps : List Part} → Run st us ps z rest → IsKnown st → has_picture us ≡ false → NoPictures ps
-no_pictures stop k h = tt
-no_pictures {st} {us = []} (step e r) k h = absurd (none_more st _ _ e)
-no_pictures {st} {us = u ∷ us} (step {mid = mid} {p = p} {ps = ps} e r) k h = pictures_step u us mid p ps (part_of st u us mid p (inl k) e) h (λ l. no_pictures r (known_after st p k) l)
+no_pictures r k h = none_along has_picture NoPictures tt pictures_step r k h
 
 -- ---- no sequence headers
 
 abbrev pub NoSequences : List Part → Type 0
 NoSequences [] = Unit {0}
 NoSequences (sequence s ∷ ps) = ⊥
-NoSequences (group g ∷ ps) = NoSequences ps
-NoSequences (picture info extension ∷ ps) = NoSequences ps
-NoSequences (matrices m ∷ ps) = NoSequences ps
-NoSequences (slice row x ∷ ps) = NoSequences ps
-NoSequences (unread_slice row u ∷ ps) = NoSequences ps
-NoSequences (skipped_unit u ∷ ps) = NoSequences ps
-NoSequences (ending ∷ ps) = NoSequences ps
-NoSequences (over ∷ ps) = NoSequences ps
+NoSequences (_ ∷ ps) = NoSequences ps
 
 other_sequences : (p : Part) (ps : List Part) → IsOther p → NoSequences ps → NoSequences (p ∷ ps)
-other_sequences (sequence s) ps o h = absurd o
-other_sequences (group g) ps o h = absurd o
-other_sequences (picture info extension) ps o h = absurd o
-other_sequences (matrices m) ps o h = h
-other_sequences (slice row x) ps o h = h
-other_sequences (unread_slice row u) ps o h = h
-other_sequences (skipped_unit u) ps o h = h
-other_sequences ending ps o h = absurd o
-other_sequences over ps o h = absurd o
+other_sequences p ps o h = other_by (λ q. NoSequences (q ∷ ps)) (λ m. h) (λ row x. h) (λ row u. h) (λ u. h) p o
 
 sequences_step : (u : List ℕ) (us mid : Units) (p : Part) (ps : List Part) → PartOf u us p mid → has_sequence (u ∷ us) ≡ false → (has_sequence mid ≡ false → NoSequences ps) → NoSequences (p ∷ ps)
 unfolding has_sequence
@@ -244,9 +207,7 @@ sequences_step u us mid p ps (of_picture v on e value kind structure) h ih =
 sequences_step u us mid p ps (of_other a b c o e) h ih = other_sequences p ps o (ih (ap has_sequence e ∙ (or_parts (is_sequence u) (has_sequence us) h).1))
 
 pub no_sequences : {st z : State} {us rest : Units} {ps : List Part} → Run st us ps z rest → IsKnown st → has_sequence us ≡ false → NoSequences ps
-no_sequences stop k h = tt
-no_sequences {st} {us = []} (step e r) k h = absurd (none_more st _ _ e)
-no_sequences {st} {us = u ∷ us} (step {mid = mid} {p = p} {ps = ps} e r) k h = sequences_step u us mid p ps (part_of st u us mid p (inl k) e) h (λ l. no_sequences r (known_after st p k) l)
+no_sequences r k h = none_along has_sequence NoSequences tt sequences_step r k h
 
 -- ---- what is known
 
@@ -276,26 +237,11 @@ known_by st u us mid p (inr on) part = known_sequence st u us mid p on part
 
 abbrev pub groups_of : List Part → ℕ
 groups_of [] = 0
-groups_of (sequence s ∷ ps) = groups_of ps
 groups_of (group g ∷ ps) = 1 + groups_of ps
-groups_of (picture info extension ∷ ps) = groups_of ps
-groups_of (matrices m ∷ ps) = groups_of ps
-groups_of (slice row x ∷ ps) = groups_of ps
-groups_of (unread_slice row u ∷ ps) = groups_of ps
-groups_of (skipped_unit u ∷ ps) = groups_of ps
-groups_of (ending ∷ ps) = groups_of ps
-groups_of (over ∷ ps) = groups_of ps
+groups_of (_ ∷ ps) = groups_of ps
 
 other_groups : (p : Part) (ps : List Part) → IsOther p → groups_of (p ∷ ps) ≡ groups_of ps
-other_groups (sequence s) ps o = absurd o
-other_groups (group g) ps o = absurd o
-other_groups (picture info extension) ps o = absurd o
-other_groups (matrices m) ps o = refl
-other_groups (slice row x) ps o = refl
-other_groups (unread_slice row u) ps o = refl
-other_groups (skipped_unit u) ps o = refl
-other_groups ending ps o = absurd o
-other_groups over ps o = absurd o
+other_groups p ps o = other_by (λ q. groups_of (q ∷ ps) ≡ groups_of ps) (λ m. refl) (λ row x. refl) (λ row u. refl) (λ u. refl) p o
 
 no_group_by : (value n : ℕ) → nat_eq value n ≡ true → nat_eq n 0xB8 ≡ false → nat_eq value 0xB8 ≡ false
 no_group_by value n e off = ap (λ (x : ℕ). nat_eq x 0xB8) (eqb-true value n e) ∙ off

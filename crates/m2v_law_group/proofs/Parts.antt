@@ -14,25 +14,13 @@ use Rattle.m2v_model.specs.Units.{Units, Next, unit_at, unit_bits, body, inside}
 use Rattle.m2v_model.specs.Looking.{refuse, number_from}
 use Rattle.m2v_model.specs.Faults.{InUnit}
 use Rattle.m2v_model.specs.Headers.{whole_header, group_in}
-use Rattle.m2v_model.specs.Streams.{Part, Among, sequence, group, picture, matrices, slice, unread_slice, skipped_unit, ending, over, value_of, close, no_second_field_due, id_at, extension_in, extension_behind, sequence_unit, group_unit, picture_unit, matrix_unit, extension_unit, read_slice, slice_in, slice_unit, onward, final, later_unit, known_unit}
+use Rattle.m2v_model.specs.Streams.{Part, Among, sequence, group, picture, skipped_unit, value_of, close, no_second_field_due, id_at, extension_in, extension_behind, sequence_unit, group_unit, picture_unit, matrix_unit, extension_unit, read_slice, slice_in, slice_unit, onward, final, later_unit, known_unit}
 use Rattle.m2v_model.specs.ByPieces.{unit_read}
 use Rattle.m2v_bits.proofs.SyntaxLaws.{good}
 use Rattle.m2v_model.proofs.StreamLaws.{known_lawful}
-use Rattle.m2v_model.proofs.SplitLaws.{IsKnown}
+use Rattle.m2v_model.proofs.SplitLaws.{IsKnown, IsOther}
 use Rattle.m2v_law_group.specs.Groups.{is_picture, is_sequence, is_group}
 use Rattle.m2v_law_group.proofs.Heads.{kind_seen, structure_seen}
-
--- neither a header nor an end
-abbrev pub IsOther : Part → Type 0
-IsOther (sequence s) = ⊥
-IsOther (group g) = ⊥
-IsOther (picture info extension) = ⊥
-IsOther (matrices m) = Unit {0}
-IsOther (slice row x) = Unit {0}
-IsOther (unread_slice row u) = Unit {0}
-IsOther (skipped_unit u) = Unit {0}
-IsOther ending = ⊥
-IsOther over = ⊥
 
 -- the part that a unit is, where others stand behind it, and what is left of these
 pub data PartOf (u : List ℕ) (us : Units) : Part → Units → Type 0 where
@@ -64,17 +52,11 @@ extension_there own (Some v) next s e t m rest n (inr h) = absurd h.1
 
 sequence_part : (st : State) (start : ℕ) (u : List ℕ) (p : Part) (us mid : Units) → is_sequence u ≡ true → (sequence_unit st start u).Stands p us mid → PartOf u us p mid
 unfolding sequence_unit close no_second_field_due seq here unit_at rule inside done
-sequence_part st start u p us mid on h =
-    let l1 = h.3 in
-    let l2 = l1.3 in
-    let l3 = l2.3 in
-    let l4 = l3.3 in
-    let l5 = l4.3 in
-    let l6 = l5.3 in
-    let before : l3.1 ≡ us = l3.2.1 ∙ l2.2.0 ∙ l1.2.1 ∙ h.2.1 in
-    let behind : mid ≡ l5.1 = l6.3.1 ∙ l6.2.1 in
-    let e = extension_there 1 l4.0 l3.0 _ l5.0 l3.1 l4.1 l5.1 l4.2 l5.2 in
-    subst (λ (x : Part). PartOf u us x mid) (sym l6.3.0) (of_sequence e.v on (sym before ∙ e.is ∙ ap (λ (l : Units). e.v ∷ l) (sym behind)) e.value)
+sequence_part st start u p us mid on (_, _, ended, (_, _, paired, (info, _, own, (next, at, stands, (v, left, there, (x, rest, read, (_, _, same, is))))))) =
+    let before : at ≡ us = stands.1 ∙ own.0 ∙ paired.1 ∙ ended.1 in
+    let behind : mid ≡ rest = is.1 ∙ same.1 in
+    let e = extension_there 1 v next _ x at left rest there read in
+    subst (λ (y : Part). PartOf u us y mid) (sym is.0) (of_sequence e.v on (sym before ∙ e.is ∙ ap (λ (l : Units). e.v ∷ l) (sym behind)) e.value)
 
 group_part : (st : State) (start : ℕ) (u : List ℕ) (p : Part) (us mid : Units) → is_group u ≡ true → (group_unit st start u).Stands p us mid → PartOf u us p mid
 unfolding group_unit close no_second_field_due seq rule inside done
@@ -85,18 +67,12 @@ group_part st start u p us mid on h =
 
 picture_part : (st : State) (start : ℕ) (u : List ℕ) (p : Part) (us mid : Units) → is_picture u ≡ true → (picture_unit st start u).Stands p us mid → PartOf u us p mid
 unfolding picture_unit close seq here unit_at rule inside done
-picture_part st start u p us mid on h =
-    let l1 = h.3 in
-    let l2 = l1.3 in
-    let l3 = l2.3 in
-    let l4 = l3.3 in
-    let l5 = l4.3 in
-    let l6 = l5.3 in
-    let before : l2.1 ≡ us = l2.2.1 ∙ l1.2.0 ∙ h.2.1 in
-    let behind : mid ≡ l4.1 = l6.3.1 ∙ l6.2.1 ∙ l5.2.1 in
-    let e = extension_there 8 l3.0 l2.0 _ l4.0 l2.1 l3.1 l4.1 l3.2 l4.2 in
-    subst (λ (x : Part). PartOf u us x mid) (sym l6.3.0)
-    (of_picture e.v on (sym before ∙ e.is ∙ ap (λ (l : Units). e.v ∷ l) (sym behind)) e.value (kind_seen l1.0 (body u) l1.2.1.0 l1.2.1.1) (structure_seen _ l1.0 l4.0 (body e.v) e.end e.stands))
+picture_part st start u p us mid on (_, _, ended, (info, _, own, (next, at, stands, (v, left, there, (x, rest, read, (_, _, pair, (_, _, anchor, is))))))) =
+    let before : at ≡ us = stands.1 ∙ own.0 ∙ ended.1 in
+    let behind : mid ≡ rest = is.1 ∙ anchor.1 ∙ pair.1 in
+    let e = extension_there 8 v next _ x at left rest there read in
+    subst (λ (y : Part). PartOf u us y mid) (sym is.0)
+    (of_picture e.v on (sym before ∙ e.is ∙ ap (λ (l : Units). e.v ∷ l) (sym behind)) e.value (kind_seen info (body u) own.1.0 own.1.1) (structure_seen _ info x (body e.v) e.end e.stands))
 
 other_slice : (st : State) (s : Option Sequence) (o : Option Open) (row start : ℕ) (u : List ℕ) (p : Part) (us mid : Units) → (slice_unit st s o row start u).Stands p us mid → IsOther p × (mid ≡ us)
 unfolding slice_unit slice_in read_slice refuse seq rule choose inside done

@@ -184,15 +184,9 @@ abbrev FitBehind : Bool → Bool → Bool → State → List Part → Type 0
 FitBehind ready changed fresh c ps = AllFit ready changed fresh c.anchors (is_some c.waiting) ps
 
 first_fits : (ready changed fresh : Bool) (c : State) (p : Part) (ps : List Part) → FitBehind ready changed fresh c (p ∷ ps) → FitsPart ready changed fresh c p
-first_fits ready changed fresh c (sequence s) ps h = tt
 first_fits ready changed fresh c (group g) ps h = h.0
 first_fits ready changed fresh c (picture info extension) ps h = h.0
-first_fits ready changed fresh c (matrices m) ps h = tt
-first_fits ready changed fresh c (slice row x) ps h = tt
-first_fits ready changed fresh c (unread_slice row u) ps h = tt
-first_fits ready changed fresh c (skipped_unit u) ps h = tt
-first_fits ready changed fresh c ending ps h = tt
-first_fits ready changed fresh c over ps h = tt
+first_fits ready changed fresh c _ ps h = tt
 
 waits_by : (ends : Bool) (f : FirstField) → (if ends then false else true) ≡ is_some (if ends then None else Some f)
 waits_by true f = refl

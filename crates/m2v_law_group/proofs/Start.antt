@@ -187,14 +187,7 @@ group_at b c start place changed u us mid p a le h =
 
 same_value : (u : List ℕ) → 8 ≤ length u → value_of (broken_header u) ≡ value_of u
 same_value (a ∷ b ∷ c ∷ d ∷ e ∷ f ∷ g ∷ h ∷ w) le = refl
-same_value [] le = absurd (omega arith)
-same_value (a ∷ []) le = absurd (omega arith)
-same_value (a ∷ b ∷ []) le = absurd (omega arith)
-same_value (a ∷ b ∷ c ∷ []) le = absurd (omega arith)
-same_value (a ∷ b ∷ c ∷ d ∷ []) le = absurd (omega arith)
-same_value (a ∷ b ∷ c ∷ d ∷ e ∷ []) le = absurd (omega arith)
-same_value (a ∷ b ∷ c ∷ d ∷ e ∷ f ∷ []) le = absurd (omega arith)
-same_value (a ∷ b ∷ c ∷ d ∷ e ∷ f ∷ g ∷ []) le = absurd (omega arith)
+same_value _ le = absurd (omega arith)
 
 pub header_value : (changed : Bool) (u : List ℕ) → 8 ≤ length u → value_of (header_by changed u) ≡ value_of u
 header_value true u le = same_value u le

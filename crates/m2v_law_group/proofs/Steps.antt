@@ -10,7 +10,7 @@ use Rattle.m2v_model.specs.declared.state.FirstField.{FirstField}
 use Rattle.m2v_model.specs.declared.state.State.{State}
 use Rattle.m2v_model.specs.States.{is_b, is_frame, is_second_field_due, opened, with_slice, with_unread_slice}
 use Rattle.m2v_model.specs.Slices.{Slice, large_in}
-use Rattle.m2v_model.specs.Streams.{Part, sequence, group, picture, matrices, slice, unread_slice, skipped_unit, ending, over, after}
+use Rattle.m2v_model.specs.Streams.{Part, sequence, group, picture, matrices, slice, unread_slice, skipped_unit, after}
 use Rattle.m2v_model.specs.Pictures.{Store, Pictures, Events, sequence_header, group_header, pictures_in, closed, picture_ended, picture_begun, told_by, store_after, sliced}
 use Rattle.m2v_model.proofs.EventLaws.{pictures_in-append}
 use Rattle.m2v_law_group.proofs.Shows.{AreBeside}
@@ -26,39 +26,20 @@ pub record AreBoth (ready changed fresh : Bool) (k : ℕ) (w c : State) (sw sc :
 
 -- the next part fits: a picture, and no group header before the cut's first anchor
 abbrev pub FitsPart : Bool → Bool → Bool → State → Part → Type 0
-FitsPart ready changed fresh c (sequence s) = Unit {0}
 FitsPart ready changed fresh c (group g) = ready ≡ true → changed ≡ true → c.anchors ≡ 0 → ⊥
 FitsPart ready changed fresh c (picture info extension) = (ready ≡ true) × Fits changed fresh c.anchors info.kind
-FitsPart ready changed fresh c (matrices m) = Unit {0}
-FitsPart ready changed fresh c (slice row x) = Unit {0}
-FitsPart ready changed fresh c (unread_slice row u) = Unit {0}
-FitsPart ready changed fresh c (skipped_unit u) = Unit {0}
-FitsPart ready changed fresh c ending = Unit {0}
-FitsPart ready changed fresh c over = Unit {0}
+FitsPart ready changed fresh c _ = Unit {0}
 
 -- no picture came since the last group header, behind a part
 abbrev pub fresh_after : Bool → Part → Bool
-fresh_after fresh (sequence s) = fresh
 fresh_after fresh (group g) = true
 fresh_after fresh (picture info extension) = false
-fresh_after fresh (matrices m) = fresh
-fresh_after fresh (slice row x) = fresh
-fresh_after fresh (unread_slice row u) = fresh
-fresh_after fresh (skipped_unit u) = fresh
-fresh_after fresh ending = fresh
-fresh_after fresh over = fresh
+fresh_after fresh _ = fresh
 
 -- the anchor that a picture needs in the cut
 pub anchor_there : (ready changed fresh : Bool) (k : ℕ) (w c : State) (sw sc : Store) (p : Part) → AreBoth ready changed fresh k w c sw sc → FitsPart ready changed fresh c p → Knows w p → HasAnchor c p
-anchor_there ready changed fresh k w c sw sc (sequence s) b f known = tt
-anchor_there ready changed fresh k w c sw sc (group g) b f known = tt
 anchor_there ready changed fresh k w c sw sc (picture info extension) b f known = anchor_kept ready changed fresh w c info (b.alike).waiting b.reach f.1 known.1
-anchor_there ready changed fresh k w c sw sc (matrices m) b f known = tt
-anchor_there ready changed fresh k w c sw sc (slice row x) b f known = tt
-anchor_there ready changed fresh k w c sw sc (unread_slice row u) b f known = tt
-anchor_there ready changed fresh k w c sw sc (skipped_unit u) b f known = tt
-anchor_there ready changed fresh k w c sw sc ending b f known = tt
-anchor_there ready changed fresh k w c sw sc over b f known = tt
+anchor_there ready changed fresh k w c sw sc _ b f known = tt
 
 -- what is told of a part in both, before what is told behind it
 abbrev pub ToldBeside : Bool → ℕ → ℕ → Events → Events → Type 0
@@ -159,19 +140,10 @@ same_steps ready changed fresh k w c sw sc (unread_slice row u) b f known = reco
   told = told_none changed k;
 }
 same_steps ready changed fresh k w c sw sc (skipped_unit u) b f known = record { next = k; both = b; told = told_none changed k }
-same_steps ready changed fresh k w c sw sc ending b f known = record {
+same_steps ready changed fresh k w c sw sc p b f known = record {
   next = c.anchors;
   both = record {
-    alike = after_alike w c [] ending ending b.alike tt (inl refl);
-    reach = b.reach;
-    held = still_held changed c.anchors c.waiting _ _ (rested changed k c.anchors c.waiting w.picture c.picture sw sc b.held);
-  };
-  told = closes_told changed k w c sw sc b.held;
-}
-same_steps ready changed fresh k w c sw sc over b f known = record {
-  next = c.anchors;
-  both = record {
-    alike = after_alike w c [] over over b.alike tt (inl refl);
+    alike = after_alike w c [] p p b.alike tt (inl refl);
     reach = b.reach;
     held = still_held changed c.anchors c.waiting _ _ (rested changed k c.anchors c.waiting w.picture c.picture sw sc b.held);
   };

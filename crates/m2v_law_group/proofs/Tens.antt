@@ -25,15 +25,9 @@ use Rattle.m2v_law_group.proofs.Told.{TenEvents}
 -- ---- where a stream ends
 
 abbrev pub IsFinal : Part → Type 0
-IsFinal (sequence s) = ⊥
-IsFinal (group g) = ⊥
-IsFinal (picture info extension) = ⊥
-IsFinal (matrices m) = ⊥
-IsFinal (slice row x) = ⊥
-IsFinal (unread_slice row u) = ⊥
-IsFinal (skipped_unit u) = ⊥
 IsFinal ending = Unit {0}
 IsFinal over = Unit {0}
+IsFinal _ = ⊥
 
 onward_none : (s : Among Part) (p : Part) (us mid : Units) → (onward s).Stands (false, p) us mid → ⊥
 unfolding onward seq done
@@ -87,29 +81,17 @@ final_part st (u ∷ us) mid p e = known_final st (unit_bits (u ∷ us)) (value_
 -- what a final part tells, and that no picture is open behind it
 pub final_told : (st : State) (store : Store) (p : Part) → IsFinal p → events_from st store (p ∷ []) ≡ closed st.picture store
 unfolding events_from
-final_told st store (sequence s) f = absurd f
-final_told st store (group g) f = absurd f
-final_told st store (picture info extension) f = absurd f
-final_told st store (matrices m) f = absurd f
-final_told st store (slice row x) f = absurd f
-final_told st store (unread_slice row u) f = absurd f
-final_told st store (skipped_unit u) f = absurd f
 final_told st store ending f = append-nil (closed st.picture store)
 final_told st store over f = append-nil (closed st.picture store)
+final_told st store _ f = absurd f
 
 -- ---- groups that begin with I pictures
 
 abbrev pub TenHolds : Bool → List Part → Type 0
 TenHolds fresh [] = Unit {0}
-TenHolds fresh (sequence s ∷ ps) = TenHolds fresh ps
 TenHolds fresh (group g ∷ ps) = TenHolds true ps
 TenHolds fresh (picture info extension ∷ ps) = (fresh ≡ true → info.kind ≡ 1) × TenHolds false ps
-TenHolds fresh (matrices m ∷ ps) = TenHolds fresh ps
-TenHolds fresh (slice row x ∷ ps) = TenHolds fresh ps
-TenHolds fresh (unread_slice row u ∷ ps) = TenHolds fresh ps
-TenHolds fresh (skipped_unit u ∷ ps) = TenHolds fresh ps
-TenHolds fresh (ending ∷ ps) = TenHolds fresh ps
-TenHolds fresh (over ∷ ps) = TenHolds fresh ps
+TenHolds fresh (_ ∷ ps) = TenHolds fresh ps
 
 -- with a picture open that isn't told yet
 abbrev TenOpen : Bool → Option Open → List Part → Type 0
@@ -155,15 +137,9 @@ ten_step st store ending ps es fresh ih h = closes_ten fresh st.picture store es
 ten_step st store over ps es fresh ih h = closes_ten fresh st.picture store es (over ∷ ps) h (λ f t. ih f t)
 
 ten_last : (st : State) (store : Store) (p : Part) (fresh : Bool) → IsFinal p → TenEvents fresh (told_by st store p ++ []) → TenOpen fresh st.picture (p ∷ [])
-ten_last st store (sequence s) fresh f h = absurd f
-ten_last st store (group g) fresh f h = absurd f
-ten_last st store (picture info extension) fresh f h = absurd f
-ten_last st store (matrices m) fresh f h = absurd f
-ten_last st store (slice row x) fresh f h = absurd f
-ten_last st store (unread_slice row u) fresh f h = absurd f
-ten_last st store (skipped_unit u) fresh f h = absurd f
 ten_last st store ending fresh f h = closes_ten fresh st.picture store [] (ending ∷ []) h (λ g t. tt)
 ten_last st store over fresh f h = closes_ten fresh st.picture store [] (over ∷ []) h (λ g t. tt)
+ten_last st store _ fresh f h = absurd f
 
 ten_open : {st z : State} {us rest : Units} {ps : List Part} → Ends st us ps z rest → (store : Store) (fresh : Bool) → TenEvents fresh (events_from st store ps) → TenOpen fresh st.picture ps
 unfolding events_from
@@ -181,15 +157,9 @@ ten_parts {st} {ps = ps} h none store fresh t = none_open fresh st.picture ps no
 
 pub ten_front : (fresh : Bool) (ps qs : List Part) → TenHolds fresh (ps ++ qs) → TenHolds fresh ps
 ten_front fresh [] qs h = tt
-ten_front fresh (sequence s ∷ ps) qs h = ten_front fresh ps qs h
 ten_front fresh (group g ∷ ps) qs h = ten_front true ps qs h
 ten_front fresh (picture info extension ∷ ps) qs h = (h.0, ten_front false ps qs h.1)
-ten_front fresh (matrices m ∷ ps) qs h = ten_front fresh ps qs h
-ten_front fresh (slice row x ∷ ps) qs h = ten_front fresh ps qs h
-ten_front fresh (unread_slice row u ∷ ps) qs h = ten_front fresh ps qs h
-ten_front fresh (skipped_unit u ∷ ps) qs h = ten_front fresh ps qs h
-ten_front fresh (ending ∷ ps) qs h = ten_front fresh ps qs h
-ten_front fresh (over ∷ ps) qs h = ten_front fresh ps qs h
+ten_front fresh (_ ∷ ps) qs h = ten_front fresh ps qs h
 
 -- ---- all parts fit
 
@@ -246,15 +216,9 @@ all_fit changed fresh anchors second (over ∷ ps) t l = all_fit changed fresh a
 -- before the chosen group no picture comes
 pub none_fit : (changed fresh : Bool) (anchors : ℕ) (second : Bool) (ps : List Part) → NoPictures ps → AllFit false changed fresh anchors second ps
 none_fit changed fresh anchors second [] n = tt
-none_fit changed fresh anchors second (sequence s ∷ ps) n = none_fit changed fresh anchors second ps n
 none_fit changed fresh anchors second (group g ∷ ps) n = (λ r. absurd cc, none_fit changed true anchors second ps n)
 none_fit changed fresh anchors second (picture info extension ∷ ps) n = absurd n
-none_fit changed fresh anchors second (matrices m ∷ ps) n = none_fit changed fresh anchors second ps n
-none_fit changed fresh anchors second (slice row x ∷ ps) n = none_fit changed fresh anchors second ps n
-none_fit changed fresh anchors second (unread_slice row u ∷ ps) n = none_fit changed fresh anchors second ps n
-none_fit changed fresh anchors second (skipped_unit u ∷ ps) n = none_fit changed fresh anchors second ps n
-none_fit changed fresh anchors second (ending ∷ ps) n = none_fit changed fresh anchors second ps n
-none_fit changed fresh anchors second (over ∷ ps) n = none_fit changed fresh anchors second ps n
+none_fit changed fresh anchors second (_ ∷ ps) n = none_fit changed fresh anchors second ps n
 
 -- ---- parts without pictures, where none is open
 
@@ -307,15 +271,8 @@ part_still st store ending e n = record { picture = refl; anchors = refl; waitin
 part_still st store over e n = record { picture = refl; anchors = refl; waiting = refl; headers = refl; kept = none_ended st.picture store e; told = ap (λ (x : Option Open). pictures_in (closed x store)) e }
 
 parts_none : (p : Part) (ps : List Part) → NoPictures (p ∷ ps) → NoPicture p × NoPictures ps
-parts_none (sequence s) ps n = (tt, n)
-parts_none (group g) ps n = (tt, n)
 parts_none (picture info extension) ps n = absurd n
-parts_none (matrices m) ps n = (tt, n)
-parts_none (slice row x) ps n = (tt, n)
-parts_none (unread_slice row u) ps n = (tt, n)
-parts_none (skipped_unit u) ps n = (tt, n)
-parts_none ending ps n = (tt, n)
-parts_none over ps n = (tt, n)
+parts_none _ ps n = (tt, n)
 
 pub quiet : {st z : State} {us rest : Units} {ps : List Part} → Run st us ps z rest → (store : Store) → st.picture ≡ None → NoPictures ps → IsQuiet st z store ps
 unfolding events_from store_from
@@ -338,14 +295,7 @@ quiet {st} {z} (step {p = p} {ps = ps} r later) store e n =
 pub first_stays : (st : State) (p : Part) (f : Sequence) → st.first ≡ Some f → (after st p).first ≡ Some f
 unfolding after
 first_stays st (sequence s) f e = ap (λ (x : Option Sequence). Some (first_or x s)) e
-first_stays st (group g) f e = e
-first_stays st (picture info extension) f e = e
-first_stays st (matrices m) f e = e
-first_stays st (slice row x) f e = e
-first_stays st (unread_slice row u) f e = e
-first_stays st (skipped_unit u) f e = e
-first_stays st ending f e = e
-first_stays st over f e = e
+first_stays st _ f e = e
 
 pub first_kept : {st z : State} {us rest : Units} {ps : List Part} → Run st us ps z rest → (f : Sequence) → st.first ≡ Some f → z.first ≡ Some f
 first_kept stop f e = e
@@ -354,14 +304,7 @@ first_kept {st} (step {p = p} r later) f e = first_kept later f (first_stays st 
 headers_stay : (st : State) (p : Part) → (after st p).headers_only ≡ st.headers_only
 unfolding after
 headers_stay st (sequence s) = refl
-headers_stay st (group g) = refl
-headers_stay st (picture info extension) = refl
-headers_stay st (matrices m) = refl
-headers_stay st (slice row x) = refl
-headers_stay st (unread_slice row u) = refl
-headers_stay st (skipped_unit u) = refl
-headers_stay st ending = refl
-headers_stay st over = refl
+headers_stay st _ = refl
 
 pub headers_kept : {st z : State} {us rest : Units} {ps : List Part} → Run st us ps z rest → z.headers_only ≡ st.headers_only
 headers_kept stop = refl

@@ -86,14 +86,7 @@ are_changed us vs (u0 ∷ u1 ∷ u2 ∷ u3 ∷ a ∷ b ∷ c ∷ d ∷ bs) le h 
     let n = with_broken_link d in
     let new : AreUnits ((u0 ∷ u1 ∷ u2 ∷ u3 ∷ a ∷ b ∷ c ∷ n ∷ bs) ∷ vs) = (omega (arith, own.0), own.1, changed_clear u0 u1 u2 u3 a b c d n bs (joined vs) (at_least_32 d) own.2, own.3) in
     are_swapped us ((u0 ∷ u1 ∷ u2 ∷ u3 ∷ a ∷ b ∷ c ∷ d ∷ bs) ∷ vs) ((u0 ∷ u1 ∷ u2 ∷ u3 ∷ a ∷ b ∷ c ∷ n ∷ bs) ∷ vs) u0 u1 u2 u3 u3 (a ∷ b ∷ c ∷ d ∷ (bs ++ joined vs)) (a ∷ b ∷ c ∷ n ∷ (bs ++ joined vs)) refl refl new h
-are_changed us vs [] le h own = absurd (omega arith)
-are_changed us vs (a ∷ []) le h own = absurd (omega arith)
-are_changed us vs (a ∷ b ∷ []) le h own = absurd (omega arith)
-are_changed us vs (a ∷ b ∷ c ∷ []) le h own = absurd (omega arith)
-are_changed us vs (a ∷ b ∷ c ∷ d ∷ []) le h own = absurd (omega arith)
-are_changed us vs (a ∷ b ∷ c ∷ d ∷ e ∷ []) le h own = absurd (omega arith)
-are_changed us vs (a ∷ b ∷ c ∷ d ∷ e ∷ f ∷ []) le h own = absurd (omega arith)
-are_changed us vs (a ∷ b ∷ c ∷ d ∷ e ∷ f ∷ g ∷ []) le h own = absurd (omega arith)
+are_changed us vs _ le h own = absurd (omega arith)
 
 -- ---- the end code
 
@@ -148,16 +141,20 @@ are_ended (u ∷ us) h none = (
   are_ended us h.3 (λ front e. none (u ++ front) (ap (λ (l : List ℕ). u ++ l) e ∙ sym (append_assoc u front (0x00 ∷ 0x00 ∷ 0x01 ∷ [])))),
 )
 
--- units of a stream, behind which others stand, with the end code in their place
-pub are_cut : (us vs : Units) → AreUnits (us ++ vs) → EndClear (joined us) → AreUnits (us ++ end_code ∷ [])
-are_cut us [] h none = are_ended us (subst AreUnits (append-nil us) h) none
-are_cut us (v ∷ vs) h none =
+first_begins : (us : Units) (v : List ℕ) (vs : Units) → AreUnits (us ++ v ∷ vs) → begins_code v ≡ true
+first_begins [] v vs h = h.1
+first_begins (u ∷ us) v vs h = first_begins us v vs h.3
+
+-- units before others are units with the end code in their place
+pub front_ended : (us : Units) (v : List ℕ) (vs : Units) → AreUnits (us ++ v ∷ vs) → AreUnits (us ++ end_code ∷ [])
+front_ended us v vs h =
     let b = code_bytes v (first_begins us v vs h) in
     are_swapped us (v ∷ vs) (end_code ∷ []) 0 0 1 b.value 0xB7 (b.rest ++ joined vs) [] (ap (λ (l : List ℕ). l ++ joined vs) b.is) refl code_are h
-  where
-    first_begins : (us : Units) (v : List ℕ) (vs : Units) → AreUnits (us ++ v ∷ vs) → begins_code v ≡ true
-    first_begins [] v vs h = h.1
-    first_begins (u ∷ us) v vs h = first_begins us v vs h.3
+
+-- units of a stream, behind which others may stand, with the end code in their place
+pub are_cut : (us vs : Units) → AreUnits (us ++ vs) → EndClear (joined us) → AreUnits (us ++ end_code ∷ [])
+are_cut us [] h none = are_ended us (subst AreUnits (append-nil us) h) none
+are_cut us (v ∷ vs) h none = front_ended us v vs h
 
 pub cut_cuts : (us : Units) → AreUnits (us ++ end_code ∷ []) → Cuts (joined us ++ end_code) [] (us ++ end_code ∷ [])
 cut_cuts us h = record { whole = sym (joined-append us (end_code ∷ [])); front_clear = λ i le lt. absurd (omega arith); are_units = h }

@@ -43,25 +43,25 @@ closed_headers : (o : Option Open) (store : Store) → headers_in (closed o stor
 closed_headers None store = refl
 closed_headers (Some p) store = refl
 
+-- behind a picture a header, or none
+headers_behind : (o : Option Open) (store : Store) (e : Event) (es : Events) (n : ℕ) → headers_in (e ∷ []) ≡ n → headers_in ((closed o store ++ e ∷ []) ++ es) ≡ n + headers_in es
+headers_behind o store e es n one =
+    let c = closed_headers o store in
+    let x = headers_then (closed o store ++ e ∷ []) es in
+    let y = headers_then (closed o store) (e ∷ []) in
+    omega (arith, c, one, x, y)
+
 pub headers_told : (st : State) (store : Store) (ps : List Part) → headers_in (events_from st store ps) ≡ groups_of ps
 unfolding events_from
 headers_told st store [] = refl
 headers_told st store (sequence s ∷ ps) =
     let ih = headers_told (after st (sequence s)) (store_after st store (sequence s)) ps in
-    let c = closed_headers st.picture store in
-    let one : headers_in (sequence_header s ∷ []) ≡ 0 = refl in
-    let e : Events = events_from (after st (sequence s)) (store_after st store (sequence s)) ps in
-    let x = headers_then (closed st.picture store ++ sequence_header s ∷ []) e in
-    let y = headers_then (closed st.picture store) (sequence_header s ∷ []) in
-    omega (arith, ih, c, one, x, y)
+    let x = headers_behind st.picture store (sequence_header s) (events_from (after st (sequence s)) (store_after st store (sequence s)) ps) 0 refl in
+    omega (arith, ih, x)
 headers_told st store (group g ∷ ps) =
     let ih = headers_told (after st (group g)) (store_after st store (group g)) ps in
-    let c = closed_headers st.picture store in
-    let one : headers_in (group_header g ∷ []) ≡ 1 = refl in
-    let e : Events = events_from (after st (group g)) (store_after st store (group g)) ps in
-    let x = headers_then (closed st.picture store ++ group_header g ∷ []) e in
-    let y = headers_then (closed st.picture store) (group_header g ∷ []) in
-    omega (arith, ih, c, one, x, y)
+    let x = headers_behind st.picture store (group_header g) (events_from (after st (group g)) (store_after st store (group g)) ps) 1 refl in
+    omega (arith, ih, x)
 headers_told st store (picture info extension ∷ ps) =
     let p = picture info extension in
     let ih = headers_told (after st p) (store_after st store p) ps in

@@ -40,27 +40,13 @@ abbrev pub AllStandBehind : State → List Part → Type 0
 AllStandBehind c ps = AllStand c.anchors c.waiting ps
 
 first_stands : (c : State) (p : Part) (ps : List Part) → AllStandBehind c (p ∷ ps) → StandsPart c p
-first_stands c (sequence s) ps h = tt
-first_stands c (group g) ps h = tt
 first_stands c (picture info extension) ps h = h.0
-first_stands c (matrices m) ps h = tt
-first_stands c (slice row x) ps h = tt
-first_stands c (unread_slice row u) ps h = tt
-first_stands c (skipped_unit u) ps h = tt
-first_stands c ending ps h = tt
-first_stands c over ps h = tt
+first_stands c _ ps h = tt
 
 others_stand : (c : State) (p : Part) (ps : List Part) → AllStandBehind c (p ∷ ps) → AllStandBehind (after c p) ps
 unfolding after
-others_stand c (sequence s) ps h = h
-others_stand c (group g) ps h = h
 others_stand c (picture info extension) ps h = h.1
-others_stand c (matrices m) ps h = h
-others_stand c (slice row x) ps h = h
-others_stand c (unread_slice row u) ps h = h
-others_stand c (skipped_unit u) ps h = h
-others_stand c ending ps h = h
-others_stand c over ps h = h
+others_stand c _ ps h = h
 
 pub stand_front : (anchors : ℕ) (waiting : Option FirstField) (ps qs : List Part) → AllStand anchors waiting (ps ++ qs) → AllStand anchors waiting ps
 stand_front anchors waiting [] qs h = tt

@@ -10,7 +10,7 @@ use Rattle.m2v_model.specs.declared.state.FirstField.{FirstField}
 use Rattle.m2v_model.specs.declared.state.State.{State}
 use Rattle.m2v_model.specs.States.{is_b, is_frame, has_anchor, is_same_sequence, opened, one_anchor_more, slice_setup, with_slice, with_unread_slice}
 use Rattle.m2v_model.specs.Slices.{Slice, large_in, slice_start}
-use Rattle.m2v_model.specs.Streams.{Part, sequence, group, picture, matrices, slice, unread_slice, skipped_unit, ending, over, after}
+use Rattle.m2v_model.specs.Streams.{Part, sequence, group, picture, matrices, slice, unread_slice, skipped_unit, after}
 use Rattle.m2v_model.specs.Pictures.{Store, sequence_header, group_header, closed, picture_ended, picture_begun, told_by, store_after, sliced}
 use Rattle.m2v_law_group.proofs.Intra.{AreStill}
 use Rattle.m2v_law_group.proofs.Alike.{OpenAlike, AreAlike, Knows, HasAnchor, setup_same, after_alike}
@@ -121,26 +121,12 @@ turned f g k w c sw sc back b =
 
 -- the next part may stand there
 abbrev pub StandsPart : State → Part → Type 0
-StandsPart c (sequence s) = Unit {0}
-StandsPart c (group g) = Unit {0}
 StandsPart c (picture info extension) = Stands c.anchors info.kind
-StandsPart c (matrices m) = Unit {0}
-StandsPart c (slice row x) = Unit {0}
-StandsPart c (unread_slice row u) = Unit {0}
-StandsPart c (skipped_unit u) = Unit {0}
-StandsPart c ending = Unit {0}
-StandsPart c over = Unit {0}
+StandsPart c _ = Unit {0}
 
 pub has_anchor_again : (w c : State) (p : Part) → Reached w.anchors c.anchors → StandsPart c p → HasAnchor w p
-has_anchor_again w c (sequence s) r h = tt
-has_anchor_again w c (group g) r h = tt
 has_anchor_again w c (picture info extension) r h = anchor_again w c info r h
-has_anchor_again w c (matrices m) r h = tt
-has_anchor_again w c (slice row x) r h = tt
-has_anchor_again w c (unread_slice row u) r h = tt
-has_anchor_again w c (skipped_unit u) r h = tt
-has_anchor_again w c ending r h = tt
-has_anchor_again w c over r h = tt
+has_anchor_again w c _ r h = tt
 
 -- ---- part by part
 
@@ -241,22 +227,10 @@ seamed_on f g k w c sw sc (unread_slice row u) b h known = record {
   told = told_none true k;
 }
 seamed_on f g k w c sw sc (skipped_unit u) b h known = record { next = k; both = b; told = told_none true k }
-seamed_on f g k w c sw sc ending b h known = record {
+seamed_on f g k w c sw sc p b h known = record {
   next = c.anchors;
   both = record {
-    alike = after_alike w c [] ending ending b.alike tt (inl refl);
-    whole = b.whole;
-    alone = b.alone;
-    same = refl;
-    reach = b.reach;
-    held = still_held true c.anchors c.waiting _ _ (rested true k c.anchors c.waiting w.picture c.picture sw sc b.held);
-  };
-  told = closes_told true k w c sw sc b.held;
-}
-seamed_on f g k w c sw sc over b h known = record {
-  next = c.anchors;
-  both = record {
-    alike = after_alike w c [] over over b.alike tt (inl refl);
+    alike = after_alike w c [] p p b.alike tt (inl refl);
     whole = b.whole;
     alone = b.alone;
     same = refl;

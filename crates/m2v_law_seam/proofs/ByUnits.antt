@@ -97,11 +97,8 @@ header_bytes u rest le code is =
     ap begins_sequence same
 
 begins_on : (bytes rest : List ℕ) → begins_sequence bytes ≡ true → begins_sequence (bytes ++ rest) ≡ true
-begins_on [] rest h = absurd cc
-begins_on (a ∷ []) rest h = absurd cc
-begins_on (a ∷ b ∷ []) rest h = absurd cc
-begins_on (a ∷ b ∷ c ∷ []) rest h = absurd cc
 begins_on (a ∷ b ∷ c ∷ d ∷ w) rest h = h
+begins_on _ rest h = absurd cc
 
 -- bytes that can grow, with units behind them
 pub record Grown (bytes : List ℕ) (v : List ℕ) (vs : Units) : Type 0 where

@@ -76,13 +76,8 @@ record Six (u : List ℕ) : Type 0 where
   is : u ≡ a ∷ b ∷ c ∷ d ∷ e ∷ f ∷ w
 
 six : (u : List ℕ) → 6 ≤ length u → Six u
-six [] le = absurd (omega arith)
-six (a ∷ []) le = absurd (omega arith)
-six (a ∷ b ∷ []) le = absurd (omega arith)
-six (a ∷ b ∷ c ∷ []) le = absurd (omega arith)
-six (a ∷ b ∷ c ∷ d ∷ []) le = absurd (omega arith)
-six (a ∷ b ∷ c ∷ d ∷ e ∷ []) le = absurd (omega arith)
 six (a ∷ b ∷ c ∷ d ∷ e ∷ f ∷ w) le = record { a = a; b = b; c = c; d = d; e = e; f = f; w = w; is = refl }
+six _ le = absurd (omega arith)
 
 reference_unit : (a b c d e f n : ℕ) (w : List ℕ) (us : Units) → 1 ≤ f / 8 % 8 → AreUnits ((a ∷ b ∷ c ∷ d ∷ e ∷ f ∷ w) ∷ us) → AreUnits ((a ∷ b ∷ c ∷ d ∷ (n / 4) ∷ (64 * (n % 4) + f % 64) ∷ w) ∷ us)
 reference_unit a b c d e f n w us le are =

@@ -12,16 +12,16 @@ use Rattle.m2v_model.specs.declared.state.FirstField.{FirstField}
 use Rattle.m2v_model.specs.declared.state.State.{State}
 use Rattle.m2v_model.specs.Units.{Units, unit_at, unit_bits, body, inside}
 use Rattle.m2v_model.specs.States.{is_frame, may_follow, is_second_field_due}
-use Rattle.m2v_model.specs.Streams.{Part, Among, sequence, group, picture, matrices, slice, unread_slice, skipped_unit, ending, over, after, value_of, close, picture_unit, onward, later_unit, known_unit}
+use Rattle.m2v_model.specs.Streams.{Part, Among, sequence, group, picture, after, value_of, close, picture_unit, onward, later_unit, known_unit}
 use Rattle.m2v_model.specs.Pieces.{begins_piece}
 use Rattle.m2v_model.specs.ByPieces.{unit_read}
 use Rattle.m2v_model.proofs.StreamLaws.{known_lawful}
-use Rattle.m2v_model.proofs.SplitLaws.{IsKnown, known_after}
+use Rattle.m2v_model.proofs.SplitLaws.{IsKnown, known_after, IsOther, other_by}
 use Rattle.m2v_law_group.specs.Groups.{is_picture, is_sequence, is_group, has_picture, next_unit, coded_pictures, structure_of}
 use Rattle.m2v_law_group.proofs.Counted.{waiting_by}
 use Rattle.m2v_law_group.proofs.Heads.{structure_seen, structure_some}
 use Rattle.m2v_law_group.proofs.Lists.{and_parts}
-use Rattle.m2v_law_group.proofs.Parts.{IsOther, PartOf, of_sequence, of_group, of_picture, of_other, part_of, extension_there}
+use Rattle.m2v_law_group.proofs.Parts.{PartOf, of_sequence, of_group, of_picture, of_other, part_of, extension_there}
 use Rattle.m2v_law_group.proofs.Runs.{Run, stop, step, none_ends}
 use Rattle.m2v_law_seam.specs.Spans.{is_extension, field_by, first_field}
 use Rattle.m2v_law_seam.proofs.Pieced.{Quiet}
@@ -41,24 +41,18 @@ parts_same i j e f same = (cc, cc)
 
 picture_by : (st : State) (start : ℕ) (u : List ℕ) (us mid : Units) (info : PictureInfo) (extension : PictureExtension) → (picture_unit st start u).Stands (picture info extension) us mid → PictureThere st us mid info extension
 unfolding picture_unit close seq here unit_at rule inside done
-picture_by st start u us mid info extension h =
-    let l1 = h.3 in
-    let l2 = l1.3 in
-    let l3 = l2.3 in
-    let l4 = l3.3 in
-    let l5 = l4.3 in
-    let l6 = l5.3 in
-    let before : l2.1 ≡ us = l2.2.1 ∙ l1.2.0 ∙ h.2.1 in
-    let behind : mid ≡ l4.1 = l6.3.1 ∙ l6.2.1 ∙ l5.2.1 in
-    let e = extension_there 8 l3.0 l2.0 _ l4.0 l2.1 l3.1 l4.1 l3.2 l4.2 in
-    let same = parts_same info l1.0 extension l4.0 l6.3.0 in
+picture_by st start u us mid info extension (_, _, ended, (i, _, own, (next, at, stands, (v, left, there, (x, rest, read, (_, _, pair, (_, _, anchor, is))))))) =
+    let before : at ≡ us = stands.1 ∙ own.0 ∙ ended.1 in
+    let behind : mid ≡ rest = is.1 ∙ anchor.1 ∙ pair.1 in
+    let e = extension_there 8 v next _ x at left rest there read in
+    let same = parts_same info i extension x is.0 in
     record {
       v = e.v;
       is = sym before ∙ e.is ∙ ap (λ (l : Units). e.v ∷ l) (sym behind);
       value = e.value;
-      seen = structure_seen _ l1.0 l4.0 (body e.v) e.end e.stands ∙ ap (λ (x : PictureExtension). Some x.structure) (sym same.1);
-      some = ap (λ (x : PictureExtension). nat_eq x.structure 0) same.1 ∙ structure_some _ l1.0 l4.0 (body e.v) e.end e.stands;
-      due = ap (λ (x : PictureInfo). is_second_field_due st.waiting x extension) same.0 ∙ ap (λ (x : PictureExtension). is_second_field_due st.waiting l1.0 x) same.1 ∙ l5.2.0;
+      seen = structure_seen _ i x (body e.v) e.end e.stands ∙ ap (λ (y : PictureExtension). Some y.structure) (sym same.1);
+      some = ap (λ (y : PictureExtension). nat_eq y.structure 0) same.1 ∙ structure_some _ i x (body e.v) e.end e.stands;
+      due = ap (λ (j : PictureInfo). is_second_field_due st.waiting j extension) same.0 ∙ ap (λ (y : PictureExtension). is_second_field_due st.waiting i y) same.1 ∙ pair.0;
     }
 
 onward_at : (s : Among Part) (p : Part) (us mid : Units) → (onward s).Stands (true, p) us mid → s.Stands p us mid
@@ -135,15 +129,7 @@ picture_waits w (Some f) info extension v h value seen some due =
 
 other_waits : (st : State) (p : Part) → IsOther p → (after st p).waiting ≡ st.waiting
 unfolding after
-other_waits st (sequence s) o = absurd o
-other_waits st (group g) o = absurd o
-other_waits st (picture info extension) o = absurd o
-other_waits st (matrices m) o = refl
-other_waits st (slice row x) o = refl
-other_waits st (unread_slice row u) o = refl
-other_waits st (skipped_unit u) o = refl
-other_waits st ending o = absurd o
-other_waits st over o = absurd o
+other_waits st p o = other_by (λ q. (after st q).waiting ≡ st.waiting) (λ m. refl) (λ row x. refl) (λ row u. refl) (λ u. refl) p o
 
 begins_by : (u : List ℕ) → (is_picture u ≡ true) ⊎ ((is_sequence u ≡ true) ⊎ (is_group u ≡ true)) → begins_piece (value_of u) ≡ true
 unfolding begins_piece

@@ -14,7 +14,7 @@ use Rattle.m2v_model.proofs.Unique.{exactly_one}
 use Rattle.m2v_model.proofs.ShiftLaws.{BeginsPiece, NoEnds}
 use Rattle.m2v_law_group.specs.Groups.{is_sequence, end_code}
 use Rattle.m2v_law_group.proofs.Runs.{Run, Ends, split, run_before, rounds_by, last_round}
-use Rattle.m2v_law_group.proofs.Texts.{are_swapped, code_bytes, code_are}
+use Rattle.m2v_law_group.proofs.Texts.{code_bytes}
 use Rattle.m2v_law_group.proofs.Texts as texts
 use Rattle.m2v_law_group.proofs.Tens.{first_kept, run_known}
 use Rattle.m2v_law_group.proofs.Start.{sequence_start, complete_there, end_read}
@@ -37,11 +37,8 @@ closed_by (x ∷ y ∷ z ∷ []) rest h = rw (h 0 (omega arith)) refl
 closed_by (x ∷ y ∷ z ∷ v ∷ w) rest h = closed_by (y ∷ z ∷ v ∷ w) rest (λ i lt. h (suc i) (omega (arith, lt)))
 
 unit_closed : (u : List ℕ) (rest : List ℕ) → 4 ≤ length u → Clear 4 u (0x00 ∷ rest) → ends_open (drop 4 u) ≡ false
-unit_closed [] rest le c = absurd (omega arith)
-unit_closed (a ∷ []) rest le c = absurd (omega arith)
-unit_closed (a ∷ b ∷ []) rest le c = absurd (omega arith)
-unit_closed (a ∷ b ∷ d ∷ []) rest le c = absurd (omega arith)
 unit_closed (a ∷ b ∷ d ∷ e ∷ w) rest le c = closed_by w rest (λ i lt. c (suc (suc (suc (suc i)))) (omega arith) (omega (arith, lt)))
+unit_closed _ rest le c = absurd (omega arith)
 
 pub front_closed : (us : Units) (v : List ℕ) (vs : Units) → AreUnits (us ++ v ∷ vs) → last_open us ≡ false
 unfolding last_open
@@ -50,16 +47,6 @@ front_closed (u ∷ []) v vs are =
     let b = code_bytes v are.3.1 in
     unit_closed u (0x00 ∷ 0x01 ∷ b.value ∷ (b.rest ++ joined vs)) are.0 (subst (Clear 4 u) (ap (λ (l : List ℕ). l ++ joined vs) b.is) are.2)
 front_closed (u ∷ w ∷ us) v vs are = front_closed (w ∷ us) v vs are.3
-
--- units before others are units with the end code in their place
-pub front_ended : (us : Units) (v : List ℕ) (vs : Units) → AreUnits (us ++ v ∷ vs) → AreUnits (us ++ end_code ∷ [])
-front_ended us v vs are =
-    let b = code_bytes v (first_begins us v vs are) in
-    are_swapped us (v ∷ vs) (end_code ∷ []) 0x00 0x00 0x01 b.value 0xB7 (b.rest ++ joined vs) [] (ap (λ (l : List ℕ). l ++ joined vs) b.is) refl code_are are
-  where
-    first_begins : (us : Units) (v : List ℕ) (vs : Units) → AreUnits (us ++ v ∷ vs) → begins_code v ≡ true
-    first_begins [] v vs h = h.1
-    first_begins (u ∷ us) v vs h = first_begins us v vs h.3
 
 -- ---- what is known of a stream
 

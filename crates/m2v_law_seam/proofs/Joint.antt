@@ -22,6 +22,7 @@ use Rattle.m2v_model.proofs.EventLaws.{pictures_in-append}
 use Rattle.m2v_model.proofs.SplitLaws.{IsKnown}
 use Rattle.m2v_model.proofs.PieceLaws.{no_ends-append}
 use Rattle.m2v_law_group.specs.Groups.{is_sequence, end_code}
+use Rattle.m2v_law_group.proofs.Law.{sequence_events, sequence_store}
 use Rattle.m2v_law_group.proofs.Held.{closed_beside}
 use Rattle.m2v_law_group.proofs.Lists.{and_parts}
 use Rattle.m2v_law_group.proofs.Runs.{Run, step, run_before, run_then, rounds_by, last_round}
@@ -88,16 +89,10 @@ agreed a b f s ea eb h = joint_by f s (subst (λ (x : Option Sequence). agrees (
 sequence_forth : (a : State) (start : ℕ) (u : List ℕ) (us mid : Units) (s : Sequence) → (sequence_unit at_first start u).Stands (sequence s) us mid → is_complete a.sequence a.picture ≡ true → none_waits a.waiting ≡ true → is_same_sequence a.first s ≡ true
     → (sequence_unit a start u).Stands (sequence s) us mid
 unfolding sequence_unit close no_second_field_due seq rule done
-sequence_forth a start u us mid s h complete paired same =
-    let l1 = h.3 in
-    let l2 = l1.3 in
-    let l3 = l2.3 in
-    let l4 = l3.3 in
-    let l5 = l4.3 in
-    let l6 = l5.3 in
-    let own : s ≡ record { info = l2.0; extension = l5.0 } = header_same s (record { info = l2.0; extension = l5.0 }) l6.3.0 in
-    let here : is_same_sequence a.first (record { info = l2.0; extension = l5.0 }) ≡ true = subst (λ (x : Sequence). is_same_sequence a.first x ≡ true) own same in
-    (h.0, h.1, (complete, h.2.1), (l1.0, l1.1, (paired, l1.2.1), (l2.0, l2.1, l2.2, (l3.0, l3.1, l3.2, (l4.0, l4.1, l4.2, (l5.0, l5.1, l5.2, (l6.0, l6.1, (here, l6.2.1), l6.3)))))))
+sequence_forth a start u us mid s (i, t0, ended, (j, t1, waits, (info, t2, own, (next, t3, at, (v, t4, there, (x, t5, read, (l, t6, first, is))))))) complete paired same =
+    let read_as : Sequence = record { info = info; extension = x } in
+    let here : is_same_sequence a.first read_as ≡ true = subst (λ (y : Sequence). is_same_sequence a.first y ≡ true) (header_same s read_as is.0) same in
+    (i, t0, (complete, ended.1), (j, t1, (paired, waits.1), (info, t2, own, (next, t3, at, (v, t4, there, (x, t5, read, (l, t6, (here, first.1), is)))))))
   where
     header_same : (x y : Sequence) → sequence x ≡ sequence y → x ≡ y
     header_same x y e = cc
@@ -228,18 +223,10 @@ both_units a b x y =
 end_told : (z : State) (store : Store) → pictures_in (events_from z store (ending ∷ [])) ≡ pictures_in (closed z.picture store)
 end_told z store = ap pictures_in (ending_events z store ∙ append-nil (closed z.picture store))
 
-next_events : (a : State) (sa : Store) (s : Sequence) (ps : List Part) → events_from a sa (sequence s ∷ ps) ≡ (closed a.picture sa ++ sequence_header s ∷ []) ++ events_from (after a (sequence s)) (picture_ended a.picture sa) ps
-unfolding events_from
-next_events a sa s ps = refl
-
-next_store : (a : State) (sa : Store) (s : Sequence) (ps : List Part) → store_from a sa (sequence s ∷ ps) ≡ store_from (after a (sequence s)) (picture_ended a.picture sa) ps
-unfolding store_from
-next_store a sa s ps = refl
-
 next_pictures : (a : State) (sa : Store) (s : Sequence) (ps : List Part) → pictures_in (events_from a sa (sequence s ∷ ps)) ≡ pictures_in (closed a.picture sa) ++ pictures_in (events_from (after a (sequence s)) (picture_ended a.picture sa) ps)
 next_pictures a sa s ps =
     let es = events_from (after a (sequence s)) (picture_ended a.picture sa) ps in
-    ap pictures_in (next_events a sa s ps ∙ append_assoc (closed a.picture sa) (sequence_header s ∷ []) es)
+    ap pictures_in (sequence_events a sa s ps ∙ append_assoc (closed a.picture sa) (sequence_header s ∷ []) es)
     ∙ pictures_in-append (closed a.picture sa) (sequence_header s ∷ es)
 
 -- what both tell
@@ -262,7 +249,7 @@ both_pictures first second ha hb pa pb x y r =
     ∙ pictures_in-append (events_from a sa own) (events_from r.state (store_from a sa own) (ending ∷ []))
     ∙ ap (λ (l : Pictures). l ++ pictures_in (events_from r.state (store_from a sa own) (ending ∷ []))) (next_pictures a sa y.s y.later)
     ∙ ap (λ (l : Pictures). (cs ++ fs) ++ l) (end_told r.state (store_from a sa own))
-    ∙ ap (λ (t : Store). (cs ++ fs) ++ pictures_in (closed (r.state).picture t)) (next_store a sa y.s y.later) in
+    ∙ ap (λ (t : Store). (cs ++ fs) ++ pictures_in (closed (r.state).picture t)) (sequence_store a sa y.s y.later) in
     ap pictures_in (events_then x.all no_frames (own ++ ending ∷ []))
     ∙ pictures_in-append (events_from at_first no_frames mine) (events_from a sa (own ++ ending ∷ []))
     ∙ ap (λ (l : Pictures). es ++ l) (later ∙ append_assoc cs fs ds ∙ ap (λ (l : Pictures). cs ++ l) r.told)

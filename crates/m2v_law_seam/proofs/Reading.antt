@@ -10,7 +10,7 @@ use Rattle.m2v_model.specs.declared.state.Open.{Open}
 use Rattle.m2v_model.specs.declared.state.State.{State}
 use Rattle.m2v_model.specs.Units.{Units, cut, joined, AreUnits}
 use Rattle.m2v_model.specs.States.{at_first, is_complete, none_waits}
-use Rattle.m2v_model.specs.Streams.{Part, Sofar, sequence, group, picture, matrices, slice, unread_slice, skipped_unit, ending, over, after, units_from}
+use Rattle.m2v_model.specs.Streams.{Part, Sofar, picture, ending, over, after, units_from}
 use Rattle.m2v_model.specs.Pictures.{Events, closed, picture_ended}
 use Rattle.m2v_model.specs.Pieces.{is_end}
 use Rattle.m2v_model.specs.ByPieces.{Between, Course, at_start, behind, course_of, units_read}
@@ -34,15 +34,9 @@ use Rattle.m2v_law_seam.proofs.Edited.{behind_units}
 
 final_closed : (st : State) (p : Part) → IsFinal p → (after st p).picture ≡ None
 unfolding after
-final_closed st (sequence s) f = absurd f
-final_closed st (group g) f = absurd f
-final_closed st (picture info extension) f = absurd f
-final_closed st (matrices m) f = absurd f
-final_closed st (slice row x) f = absurd f
-final_closed st (unread_slice row u) f = absurd f
-final_closed st (skipped_unit u) f = absurd f
 final_closed st ending f = refl
 final_closed st over f = refl
+final_closed st _ f = absurd f
 
 ends_closed : {st z : State} {us rest : Units} {ps : List Part} → Ends st us ps z rest → z.picture ≡ None
 ends_closed {st} {us = us} {rest = rest} (finish {p = p} e) = final_closed st p (final_part st us rest p e)

@@ -80,15 +80,9 @@ stand_step st store ending ps es anchors ih h = closes_stand anchors st.picture 
 stand_step st store over ps es anchors ih h = closes_stand anchors st.picture store es st.waiting (over ∷ ps) h (λ n t. ih n t)
 
 stand_last : (st : State) (store : Store) (p : Part) (anchors : ℕ) → IsFinal p → Told anchors (told_by st store p ++ []) → OpenStands anchors st.picture st.waiting (p ∷ [])
-stand_last st store (sequence s) anchors f h = absurd f
-stand_last st store (group g) anchors f h = absurd f
-stand_last st store (picture info extension) anchors f h = absurd f
-stand_last st store (matrices m) anchors f h = absurd f
-stand_last st store (slice row x) anchors f h = absurd f
-stand_last st store (unread_slice row u) anchors f h = absurd f
-stand_last st store (skipped_unit u) anchors f h = absurd f
 stand_last st store ending anchors f h = closes_stand anchors st.picture store [] st.waiting (ending ∷ []) h (λ n t. tt)
 stand_last st store over anchors f h = closes_stand anchors st.picture store [] st.waiting (over ∷ []) h (λ n t. tt)
+stand_last st store _ anchors f h = absurd f
 
 stand_open : {st z : State} {us rest : Units} {ps : List Part} → Ends st us ps z rest → (store : Store) (anchors : ℕ) → Told anchors (events_from st store ps) → OpenStands anchors st.picture st.waiting ps
 unfolding events_from

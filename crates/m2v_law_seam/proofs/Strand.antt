@@ -46,13 +46,10 @@ code_parts a b c d e =
     (x.0, y.0, z.0, z.1)
 
 first_bytes : (bytes : List ℕ) → begins_sequence bytes ≡ true → FirstBytes bytes
-first_bytes [] h = absurd cc
-first_bytes (a ∷ []) h = absurd cc
-first_bytes (a ∷ b ∷ []) h = absurd cc
-first_bytes (a ∷ b ∷ c ∷ []) h = absurd cc
 first_bytes (a ∷ b ∷ c ∷ d ∷ w) h =
     let p = code_parts (nat_eq a 0) (nat_eq b 0) (nat_eq c 1) (nat_eq d 0xB3) h in
     record { rest = w; is = rw (eqb-true a 0 p.0, eqb-true b 0 p.1, eqb-true c 1 p.2, eqb-true d 0xB3 p.3) refl }
+first_bytes _ h = absurd cc
 
 pub none_ends : (us : Units) → has_end us ≡ false → NoEnds us
 unfolding has_end
@@ -93,11 +90,8 @@ units_ended (u ∷ v ∷ us) are h =
     (ap (λ (l : List ℕ). l ++ joined us) b.is) (ap (λ (l : List ℕ). l ++ joined (us ++ end_code ∷ [])) b.is) later are
 
 unit_sequence : (u rest w : List ℕ) → 4 ≤ length u → u ++ rest ≡ 0x00 ∷ 0x00 ∷ 0x01 ∷ 0xB3 ∷ w → is_sequence u ≡ true
-unit_sequence [] rest w le e = absurd (omega arith)
-unit_sequence (a ∷ []) rest w le e = absurd (omega arith)
-unit_sequence (a ∷ b ∷ []) rest w le e = absurd (omega arith)
-unit_sequence (a ∷ b ∷ c ∷ []) rest w le e = absurd (omega arith)
 unit_sequence (a ∷ b ∷ c ∷ d ∷ x) rest w le e = let four : d ≡ 0xB3 = cc in ap (λ (n : ℕ). nat_eq n 0xB3) four
+unit_sequence _ rest w le e = absurd (omega arith)
 
 -- the units of a strand, with its end code behind them
 pub record StrandUnits (bytes : List ℕ) : Type 0 where

@@ -19,10 +19,8 @@ open_tail (a ∷ b ∷ c ∷ d ∷ w) =
 -- bytes before three others don't matter
 front_step : (b : ℕ) (l : List ℕ) → 3 ≤ length l → ends_open (b ∷ l) ≡ ends_open l
 unfolding ends_open
-front_step b [] le = absurd (omega (arith, le))
-front_step b (x ∷ []) le = absurd (omega (arith, le))
-front_step b (x ∷ y ∷ []) le = absurd (omega (arith, le))
 front_step b (x ∷ y ∷ z ∷ l) le = refl
+front_step b _ le = absurd (omega (arith, le))
 
 pub open_front : (x w : List ℕ) → 3 ≤ length w → ends_open (x ++ w) ≡ ends_open w
 open_front [] w le = refl

@@ -27,7 +27,8 @@ use Rattle.m2v_law_seam.specs.Strands.{ends_open, last_open}
 use Rattle.m2v_law_seam.specs.Mending.{Mending, nothing_yet, strand_of, with_spans, ended_by, strand_ended, with_stretches, strands, gaps_in, ended_text, mended}
 use Rattle.m2v_law_seam.specs.Mends.{StartsClear, EndsOnce, AllShort, AllWithin, MendSame}
 use Rattle.m2v_law_seam.proofs.Strand.{units_ended}
-use Rattle.m2v_law_seam.proofs.Fronts.{ReadOn, first_of, front_reads, front_closed, front_ended}
+use Rattle.m2v_law_group.proofs.Texts.{front_ended}
+use Rattle.m2v_law_seam.proofs.Fronts.{ReadOn, first_of, front_reads, front_closed}
 use Rattle.m2v_law_seam.proofs.Pieced.{flat, AllBegin, Full, Quiet, Pieced, pieced}
 use Rattle.m2v_law_seam.proofs.Fields.{next_waits}
 use Rattle.m2v_law_seam.proofs.Boundary.{At, rest_last, at_first_piece}

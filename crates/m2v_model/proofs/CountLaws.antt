@@ -14,7 +14,7 @@ use Rattle.m2v_model.specs.Faults.{InUnit}
 use Rattle.m2v_model.specs.States.{with_slice, with_unread_slice}
 use Rattle.m2v_model.specs.Slices.{large_in}
 use Rattle.m2v_model.specs.Looking.{refuse}
-use Rattle.m2v_model.specs.Streams.{Part, Among, sequence, group, picture, matrices, slice, unread_slice, skipped_unit, ending, over, after, value_of, close, no_second_field_due, id_at, extension_in, extension_behind, sequence_unit, group_unit, picture_unit, matrix_unit, extension_unit, read_slice, slice_in, slice_unit, end_unit, onward, final, later_unit, known_unit, text_end}
+use Rattle.m2v_model.specs.Streams.{Part, Among, sequence, group, picture, matrices, slice, unread_slice, skipped_unit, ending, after, value_of, close, no_second_field_due, id_at, extension_in, extension_behind, sequence_unit, group_unit, picture_unit, matrix_unit, extension_unit, read_slice, slice_in, slice_unit, end_unit, onward, final, later_unit, known_unit, text_end}
 use Rattle.m2v_model.specs.Pictures.{Store, Events, sequence_header, group_header, closed, told_by, pictures_in}
 use Rattle.m2v_model.specs.Pieces.{is_end, picture_units}
 use Rattle.m2v_model.specs.ByPieces.{Between, Course, behind, unit_read, after_part, units_read}
@@ -26,15 +26,8 @@ use Rattle.m2v_model.proofs.EventLaws.{pictures_in-append}
 -- ---- parts
 
 abbrev picture_part : Part → ℕ
-picture_part (sequence s) = 0
-picture_part (group g) = 0
 picture_part (picture info extension) = 1
-picture_part (matrices m) = 0
-picture_part (slice row x) = 0
-picture_part (unread_slice row u) = 0
-picture_part (skipped_unit u) = 0
-picture_part ending = 0
-picture_part over = 0
+picture_part _ = 0
 
 abbrev pub open_count : Option Open → ℕ
 open_count None = 0
@@ -65,13 +58,11 @@ part_counts : (b : Between) (p : Part) → length (pictures_in (told_by b.state 
 unfolding after
 part_counts b (sequence s) = omega (arith, closed_count b.state.picture b.store (sequence_header s ∷ []))
 part_counts b (group g) = omega (arith, closed_count b.state.picture b.store (group_header g ∷ []))
-part_counts b (picture info extension) = omega (arith, closed_alone b.state.picture b.store)
 part_counts b (matrices m) = omega arith
 part_counts b (slice row x) = omega (arith, sliced_count b.state.picture row x.covered (large_in x))
 part_counts b (unread_slice row u) = omega (arith, unread_count b.state.picture row)
 part_counts b (skipped_unit u) = omega arith
-part_counts b ending = omega (arith, closed_alone b.state.picture b.store)
-part_counts b over = omega (arith, closed_alone b.state.picture b.store)
+part_counts b _ = omega (arith, closed_alone b.state.picture b.store)
 
 -- ---- what takes nothing
 
@@ -137,20 +128,21 @@ choose_ends n b h i = record {
       ];
 }
 
+-- what is read inside the unit
+inside_ends : {V : Type 0} (u : List ℕ) (s : InUnit V) (k : V → Part) → ((v : V) → picture_part (k v) ≡ 0) → Ends 0 (seq (inside u s) (λ v. done (k v)))
+inside_ends u s k none = seq_ends 0 (inside_keeps u s) (λ v. done_ends 0 (k v) (none v))
+
 group_ends : (st : State) (start : ℕ) (u : List ℕ) → Ends 0 (group_unit st start u)
 unfolding group_unit
 group_ends st start u =
     seq_ends 0 (close_keeps st start) (λ closed.
     seq_ends 0 (due_keeps st start) (λ due.
-    seq_ends 0 (inside_keeps u _) (λ g.
-    done_ends 0 (group g) refl)))
+    inside_ends u _ group (λ g. refl)))
 
 matrix_ends : (st : State) (start : ℕ) (u : List ℕ) → Ends 0 (matrix_unit st start u)
 unfolding matrix_unit
 matrix_ends st start u =
-    seq_ends 0 (rule_keeps _ _ start) (λ allowed.
-    seq_ends 0 (inside_keeps u _) (λ m.
-    done_ends 0 (matrices m) refl))
+    seq_ends 0 (rule_keeps _ _ start) (λ allowed. inside_ends u _ matrices (λ m. refl))
 
 extension_ends : (st : State) (start : ℕ) (u : List ℕ) → Ends 0 (extension_unit st start u)
 unfolding extension_unit
@@ -163,7 +155,7 @@ extension_ends st start u =
 
 read_ends : (st : State) (s : Sequence) (p : Open) (row : ℕ) (u : List ℕ) → Ends 0 (read_slice st s p row u)
 unfolding read_slice
-read_ends st s p row u = seq_ends 0 (inside_keeps u _) (λ x. done_ends 0 (slice row x) refl)
+read_ends st s p row u = inside_ends u _ (slice row) (λ x. refl)
 
 slice_in_ends : (st : State) (s : Sequence) (p : Open) (row start : ℕ) (u : List ℕ) → Ends 0 (slice_in st s p row start u)
 unfolding slice_in

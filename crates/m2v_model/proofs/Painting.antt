@@ -42,14 +42,19 @@ passed : (a b : Bool) (x y z : ℕ) → a ≡ false → y ≡ z → cond (a && b
 passed true b x y z e h = absurd cc
 passed false b x y z e h = h
 
+-- what stands in a plane with a square of these lines put there
+abbrev squared : Lines → ℕ → ℕ → ℕ → ℕ → (ℕ → ℕ → ℕ) → List ℕ → ℕ → ℕ → ℕ
+squared which side columns row column new xs line c =
+    let n = number_among which line in
+    cond (is_among which line && (nat_eq (n / side) row && nat_eq (c / side) column)) (new (n % side) (c % side)) (get_or xs (line * (side * columns) + c) 0)
+
 -- one macroblock more
 pub part_more : (which : Lines) (side rows columns row column : ℕ) (f new : ℕ → ℕ → ℕ) (xs : List ℕ) → 0 < side → column < columns → HasPart which side rows columns (row * columns + column) f xs
     → ((r c : ℕ) → is_among which r ≡ true → number_among which r / side ≡ row → c / side ≡ column → new (number_among which r % side) (c % side) ≡ f r c)
     → HasPart which side rows columns (row * columns + suc column) f (plane_with_square (side * rows) (side * columns) side which row column new xs)
 unfolding plane_with_square
 part_more which side rows columns row column f new xs some small h same =
-    let at = λ (line c : ℕ).
-    cond (is_among which line && (nat_eq (number_among which line / side) row && nat_eq (c / side) column)) (new (number_among which line % side) (c % side)) (get_or xs (line * (side * columns) + c) 0) in
+    let at = squared which side columns row column new xs in
     record {
       len = length-plane_by (side * rows) (side * columns) at;
       part = λ r c lr lc among below.
@@ -76,12 +81,10 @@ pub part_kept : (which others : Lines) (side rows columns count row column : ℕ
     → HasPart which side rows columns count f (plane_with_square (side * rows) (side * columns) side others row column new xs)
 unfolding plane_with_square
 part_kept which others side rows columns count row column f new xs h apart =
-    let at = λ (line c : ℕ).
-    cond (is_among others line && (nat_eq (number_among others line / side) row && nat_eq (c / side) column)) (new (number_among others line % side) (c % side)) (get_or xs (line * (side * columns) + c) 0) in
+    let at = squared others side columns row column new xs in
     record {
       len = length-plane_by (side * rows) (side * columns) at;
-      part = λ r c lr lc among below.
-          plane_at (side * rows) (side * columns) at r c lr lc ∙ passed (is_among others r) _ _ _ _ (apart r among) (h.part r c lr lc among below);
+      part = λ r c lr lc among below. plane_at (side * rows) (side * columns) at r c lr lc ∙ passed (is_among others r) _ _ _ _ (apart r among) (h.part r c lr lc among below);
     }
 
 -- all macroblocks

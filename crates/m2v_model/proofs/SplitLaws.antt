@@ -12,7 +12,9 @@ use Rattle.m2v_model.specs.declared.state.State.{State}
 use Rattle.m2v_model.specs.Units.{Units, unit_bits}
 use Rattle.m2v_model.specs.States.{after_end, is_complete, none_waits}
 use Rattle.m2v_model.specs.Looking.{refuse}
-use Rattle.m2v_model.specs.Streams.{Part, Among, sequence, group, picture, matrices, slice, unread_slice, skipped_unit, ending, over, after, value_of, close, no_second_field_due, sequence_unit, group_unit, picture_unit, end_unit, onward, final, later_unit, known_unit, text_end}
+use Rattle.m2v_macroblock.specs.m2v_head.declared.matrix.MatrixInfo.{MatrixInfo}
+use Rattle.m2v_model.specs.Slices.{Slice}
+use Rattle.m2v_model.specs.Streams.{Part, Among, sequence, group, picture, matrices, slice, unread_slice, skipped_unit, after, value_of, close, no_second_field_due, sequence_unit, group_unit, picture_unit, end_unit, onward, final, later_unit, known_unit, text_end}
 use Rattle.m2v_model.specs.Pictures.{Events, closed, picture_ended, told_by}
 use Rattle.m2v_model.specs.Pieces.{begins_piece, is_end}
 use Rattle.m2v_model.specs.ByPieces.{Between, Course, behind, unit_read, after_part, units_read}
@@ -56,14 +58,7 @@ known_at st (u ∷ us) k = rw k refl
 pub known_after : (st : State) (p : Part) → IsKnown st → IsKnown (after st p)
 unfolding after
 known_after st (sequence s) k = refl
-known_after st (group g) k = k
-known_after st (picture info extension) k = k
-known_after st (matrices m) k = k
-known_after st (slice row x) k = k
-known_after st (unread_slice row u) k = k
-known_after st (skipped_unit u) k = k
-known_after st ending k = k
-known_after st over k = k
+known_after st _ k = k
 
 known_behind : (ps : Events) (r : Course) → IsKnownBehind r → IsKnownBehind (behind ps r)
 known_behind ps (Ok x) k = k
@@ -75,17 +70,25 @@ complete_none None = refl
 
 -- ---- where a picture ends
 
+-- neither a header nor an end
+abbrev pub IsOther : Part → Type 0
+IsOther (matrices m) = Unit {0}
+IsOther (slice row x) = Unit {0}
+IsOther (unread_slice row u) = Unit {0}
+IsOther (skipped_unit u) = Unit {0}
+IsOther _ = ⊥
+
+pub other_by : (P : Part → Type 0) → ((m : MatrixInfo) → P (matrices m)) → ((row : ℕ) (x : Slice) → P (slice row x)) → ((row : ℕ) (u : List ℕ) → P (unread_slice row u)) → ((u : List ℕ) → P (skipped_unit u))
+    → (p : Part) → IsOther p → P p
+other_by P h i j k (matrices m) o = h m
+other_by P h i j k (slice row x) o = i row x
+other_by P h i j k (unread_slice row u) o = j row u
+other_by P h i j k (skipped_unit u) o = k u
+other_by P h i j k _ o = absurd o
+
 -- the part ends the picture that is open
 abbrev Renews : Part → Type 0
-Renews (sequence s) = Unit {0}
-Renews (group g) = Unit {0}
-Renews (picture info extension) = Unit {0}
-Renews (matrices m) = ⊥
-Renews (slice row x) = ⊥
-Renews (unread_slice row u) = ⊥
-Renews (skipped_unit u) = ⊥
-Renews ending = Unit {0}
-Renews over = Unit {0}
+Renews p = IsOther p → ⊥
 
 -- what stands where the picture that is open has ended
 abbrev pub rested : Between → Between
@@ -99,13 +102,11 @@ part_renewed : (b : Between) (m : Bool) (p : Part) (mid : Units) → Renews p �
 unfolding after
 part_renewed b m (sequence s) mid r = behind_twice (closed_of b) _ _
 part_renewed b m (group g) mid r = behind_twice (closed_of b) _ _
-part_renewed b m (picture info extension) mid r = ap (behind (closed_of b)) (sym (behind_none _))
-part_renewed b m (matrices x) mid r = absurd r
-part_renewed b m (slice row x) mid r = absurd r
-part_renewed b m (unread_slice row u) mid r = absurd r
-part_renewed b m (skipped_unit u) mid r = absurd r
-part_renewed b m ending mid r = ap (behind (closed_of b)) (sym (behind_none _))
-part_renewed b m over mid r = ap (behind (closed_of b)) (sym (behind_none _))
+part_renewed b m (matrices x) mid r = absurd (r tt)
+part_renewed b m (slice row x) mid r = absurd (r tt)
+part_renewed b m (unread_slice row u) mid r = absurd (r tt)
+part_renewed b m (skipped_unit u) mid r = absurd (r tt)
+part_renewed b m _ mid r = ap (behind (closed_of b)) (sym (behind_none _))
 
 all_renewed : (b : Between) (r : Result ((Bool × Part) × Units) (FaultKind × ℕ)) → ((x : Bool × Part) (mid : Units) → r ≡ good (x, mid) → Renews x.1)
     → bind r (part_read b) ≡ behind (closed_of b) (bind r (part_read (rested b)))
@@ -117,61 +118,51 @@ renews_picture : (st : State) (start : ℕ) (u : List ℕ) (t mid : Units) (x : 
 unfolding known_unit later_unit choose onward picture_unit seq done
 renews_picture st start u t mid x k e =
     let s = (onward_lawful (picture_unit_lawful st start u)).found x t mid (sym (cond-true (is_some st.sequence) _ _ k) ∙ e) in
-    subst Renews (sym (ap (λ (y : Bool × Part). y.1) s.3.0 ∙ s.2.3.3.3.3.3.3.3.0)) tt
+    subst Renews (sym (ap (λ (y : Bool × Part). y.1) s.3.0 ∙ s.2.3.3.3.3.3.3.3.0)) (λ o. o)
 
 renews_sequence : (st : State) (start : ℕ) (u : List ℕ) (t mid : Units) (x : Bool × Part) → (known_unit st start 0xB3 u).read t ≡ good (x, mid) → Renews x.1
 unfolding known_unit choose onward sequence_unit seq done
 renews_sequence st start u t mid x e =
     let s = (onward_lawful (sequence_unit_lawful st start u)).found x t mid e in
-    subst Renews (sym (ap (λ (y : Bool × Part). y.1) s.3.0 ∙ s.2.3.3.3.3.3.3.3.0)) tt
+    subst Renews (sym (ap (λ (y : Bool × Part). y.1) s.3.0 ∙ s.2.3.3.3.3.3.3.3.0)) (λ o. o)
 
 renews_end : (st : State) (start : ℕ) (u : List ℕ) (t mid : Units) (x : Bool × Part) → IsKnown st → (known_unit st start 0xB7 u).read t ≡ good (x, mid) → Renews x.1
 unfolding known_unit later_unit choose final end_unit seq done
 renews_end st start u t mid x k e =
     let s = (final_lawful (end_unit_lawful st start)).found x t mid (sym (cond-true (is_some st.sequence) _ _ k) ∙ e) in
-    subst Renews (sym (ap (λ (y : Bool × Part). y.1) s.3.0 ∙ s.2.3.3.0)) tt
+    subst Renews (sym (ap (λ (y : Bool × Part). y.1) s.3.0 ∙ s.2.3.3.0)) (λ o. o)
 
 renews_group : (st : State) (start : ℕ) (u : List ℕ) (t mid : Units) (x : Bool × Part) → IsKnown st → (known_unit st start 0xB8 u).read t ≡ good (x, mid) → Renews x.1
 unfolding known_unit later_unit choose onward group_unit seq done
 renews_group st start u t mid x k e =
     let s = (onward_lawful (group_unit_lawful st start u)).found x t mid (sym (cond-true (is_some st.sequence) _ _ k) ∙ e) in
-    subst Renews (sym (ap (λ (y : Bool × Part). y.1) s.3.0 ∙ s.2.3.3.3.0)) tt
+    subst Renews (sym (ap (λ (y : Bool × Part). y.1) s.3.0 ∙ s.2.3.3.3.0)) (λ o. o)
 
 -- a unit that begins a piece, from a state on: first the picture that is open ends
 abbrev Closes : State → ℕ → List ℕ → Units → ℕ → Type 0
 Closes st start u t value = (known_unit st start value u).read t ≡ cond (is_complete st.sequence st.picture) ((known_unit (after_end st) start value u).read t) (Err (MissingMacroblocks, start))
 
+closes_where : (st : State) (start value : ℕ) (u : List ℕ) (t : Units) → (is_complete st.sequence st.picture ≡ true → (known_unit st start value u).read t ≡ (known_unit (after_end st) start value u).read t)
+    → (is_complete st.sequence st.picture ≡ false → (known_unit st start value u).read t ≡ Err (MissingMacroblocks, start)) → Closes st start u t value
+closes_where st start value u t whole part =
+    let at = λ (c : Bool). (known_unit st start value u).read t ≡ cond c ((known_unit (after_end st) start value u).read t) (Err (MissingMacroblocks, start)) in
+    elim (cases_Bool (is_complete st.sequence st.picture)) [ inl on ↦ subst at (sym on) (whole on) | inr off ↦ subst at (sym off) (part off) ]
+
 closes_picture : (st : State) (start : ℕ) (u : List ℕ) (t : Units) → IsKnown st → Closes st start u t 0x00
 unfolding known_unit later_unit choose onward picture_unit seq close rule bind
-closes_picture st start u t k =
-    elim (cases_Bool (is_complete st.sequence st.picture)) [
-      | inl on ↦ rw (k, on, complete_none st.sequence) refl
-      | inr off ↦ rw (k, off) refl
-    ]
+closes_picture st start u t k = closes_where st start 0x00 u t (λ on. rw (k, on, complete_none st.sequence) refl) (λ off. rw (k, off) refl)
 
 closes_sequence : (st : State) (start : ℕ) (u : List ℕ) (t : Units) → Closes st start u t 0xB3
 unfolding known_unit choose onward sequence_unit seq close no_second_field_due rule bind
-closes_sequence st start u t =
-    elim (cases_Bool (is_complete st.sequence st.picture)) [
-      | inl on ↦ rw (on, complete_none st.sequence) refl
-      | inr off ↦ rw off refl
-    ]
+closes_sequence st start u t = closes_where st start 0xB3 u t (λ on. rw (on, complete_none st.sequence) refl) (λ off. rw off refl)
 
 closes_end : (st : State) (start : ℕ) (u : List ℕ) (t : Units) → IsKnown st → Closes st start u t 0xB7
 unfolding known_unit later_unit choose final end_unit seq close no_second_field_due rule bind
-closes_end st start u t k =
-    elim (cases_Bool (is_complete st.sequence st.picture)) [
-      | inl on ↦ rw (k, on, complete_none st.sequence) refl
-      | inr off ↦ rw (k, off) refl
-    ]
+closes_end st start u t k = closes_where st start 0xB7 u t (λ on. rw (k, on, complete_none st.sequence) refl) (λ off. rw (k, off) refl)
 
 closes_group : (st : State) (start : ℕ) (u : List ℕ) (t : Units) → IsKnown st → Closes st start u t 0xB8
 unfolding known_unit later_unit choose onward group_unit seq close no_second_field_due rule bind
-closes_group st start u t k =
-    elim (cases_Bool (is_complete st.sequence st.picture)) [
-      | inl on ↦ rw (k, on, complete_none st.sequence) refl
-      | inr off ↦ rw (k, off) refl
-    ]
+closes_group st start u t k = closes_where st start 0xB8 u t (λ on. rw (k, on, complete_none st.sequence) refl) (λ off. rw (k, off) refl)
 
 closes_none : (st : State) → IsKnown st → unit_read st [] ≡ cond (is_complete st.sequence st.picture) (unit_read (after_end st) []) (Err (MissingMacroblocks, 0))
 unfolding unit_read text_end seq close rule bind
@@ -183,7 +174,7 @@ closes_none st k =
 
 renews_none : (st : State) (x : Bool × Part) (mid : Units) → unit_read st [] ≡ good (x, mid) → Renews x.1
 unfolding unit_read text_end seq done
-renews_none st x mid e = let s = (text_end_lawful st 0).found x [] mid e in subst Renews (sym (ap (λ (y : Bool × Part). y.1) s.3.3.0)) tt
+renews_none st x mid e = let s = (text_end_lawful st 0).found x [] mid e in subst Renews (sym (ap (λ (y : Bool × Part). y.1) s.3.3.0)) (λ o. o)
 
 which : (value : ℕ) → begins_piece value ≡ true → (value ≡ 0x00) ⊎ ((value ≡ 0xB3) ⊎ ((value ≡ 0xB7) ⊎ (value ≡ 0xB8)))
 unfolding begins_piece

@@ -42,25 +42,24 @@ unfolding extension_behind
 extension_behind_lawful own None start ls = refuse_lawful length NotMpeg2 start
 extension_behind_lawful own (Some u) start ls = choose_lawful _ (extension_in_lawful own u start ls) (refuse_lawful length NotMpeg2 start)
 
+-- what begins where no field waits for its second one
+paired_lawful : {V : Type 0} {s : Among V} (st : State) (start : ℕ) → Lawful length s → Lawful length (seq (close st start) (λ closed. seq (no_second_field_due st start) (λ paired. s)))
+paired_lawful st start ls = seq_lawful (close_lawful st start) (λ closed. seq_lawful (due_lawful st start) (λ paired. ls))
+
 pub sequence_unit_lawful : (st : State) (start : ℕ) (u : List ℕ) → Lawful length (sequence_unit st start u)
 unfolding sequence_unit
 sequence_unit_lawful st start u =
-    seq_lawful (close_lawful st start) (λ closed.
-    seq_lawful (due_lawful st start) (λ paired.
+    paired_lawful st start (
     seq_lawful (inside_lawful u (whole_header_lawful sequence_lawful)) (λ info.
     seq_lawful (here_lawful length unit_bits) (λ next.
     seq_lawful unit_lawful (λ v.
     seq_lawful (extension_behind_lawful 1 v next (whole_header_lawful (sequence_extension_lawful info))) (λ extension.
     seq_lawful (rule_lawful length _ SequenceChanged start) (λ same.
-    done_lawful length _)))))))
+    done_lawful length _))))))
 
 pub group_unit_lawful : (st : State) (start : ℕ) (u : List ℕ) → Lawful length (group_unit st start u)
 unfolding group_unit
-group_unit_lawful st start u =
-    seq_lawful (close_lawful st start) (λ closed.
-    seq_lawful (due_lawful st start) (λ paired.
-    seq_lawful (inside_lawful u (whole_header_lawful group_lawful)) (λ g.
-    done_lawful length _)))
+group_unit_lawful st start u = paired_lawful st start (seq_lawful (inside_lawful u (whole_header_lawful group_lawful)) (λ g. done_lawful length _))
 
 pub picture_unit_lawful : (st : State) (start : ℕ) (u : List ℕ) → Lawful length (picture_unit st start u)
 unfolding picture_unit
@@ -104,7 +103,7 @@ slice_unit_lawful st None p row start u = refuse_lawful length SliceOrder start
 
 pub end_unit_lawful : (st : State) (start : ℕ) → Lawful length (end_unit st start)
 unfolding end_unit
-end_unit_lawful st start = seq_lawful (close_lawful st start) (λ closed. seq_lawful (due_lawful st start) (λ paired. done_lawful length _))
+end_unit_lawful st start = paired_lawful st start (done_lawful length _)
 
 pub onward_lawful : {s : Among Part} → Lawful length s → Lawful length (onward s)
 unfolding onward

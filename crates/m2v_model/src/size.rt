@@ -1,21 +1,28 @@
 //! The size of a sequence's frames.
 ghost use Rattle.std.specs.Prelude.{◌≡◌, ◌<◌, ◌^◌};
 ghost use Rattle.m2v_order.specs.m2v_plane.Sizes.{IsSize};
+ghost use Rattle.m2v_model.specs.Headers.{size_of};
 
 use crate::Sequence;
 use m2v_order::plane::Dims;
 
+// twelve bits of the header, and those of the extension above
+fn joined(low: u32, high: u8) -> u64
+    ensures value { result ≡ size_of low high }
+    ensures below { result < 2 ^ 33 }
+{
+    u64::from(high) * 4096 + u64::from(low)
+}
+
 impl Sequence {
     ghost use Rattle.m2v_model.specs.States.{width_of, height_of, columns_of, rows_of, dims_of};
 
-    /// The width of its frames in samples (clause 6.3.3): twelve bits of the header, and those of the extension above.
+    /// The width of its frames in samples (clause 6.3.3).
     pub fn width(&self) -> u64
         ensures value { result ≡ width_of self.now }
         ensures below { result < 2 ^ 33 }
     {
-        let high = self.extension.horizontal_ext;
-        let low = self.info.horizontal_size;
-        u64::from(high) * 4096 + u64::from(low)
+        joined(self.info.horizontal_size, self.extension.horizontal_ext)
     }
 
     /// The height of its frames in samples (clause 6.3.3).
@@ -23,9 +30,7 @@ impl Sequence {
         ensures value { result ≡ height_of self.now }
         ensures below { result < 2 ^ 33 }
     {
-        let high = self.extension.vertical_ext;
-        let low = self.info.vertical_size;
-        u64::from(high) * 4096 + u64::from(low)
+        joined(self.info.vertical_size, self.extension.vertical_ext)
     }
 
     /// How many macroblocks stand in a row of a frame (clause 6.3.3).
