@@ -9,8 +9,8 @@ use Rattle.m2v_model.specs.declared.state.Open.{Open}
 use Rattle.m2v_model.specs.Units.{Units, cut, joined, AreUnits}
 use Rattle.m2v_model.specs.States.{with_slice, with_unread_slice}
 use Rattle.m2v_model.specs.Slices.{large_in}
-use Rattle.m2v_model.specs.Streams.{sequence, group, picture, matrices, slice, unread_slice, skipped_unit, ending, over, after, value_of}
-use Rattle.m2v_model.specs.Pictures.{Store, Events, sequence_header, group_header, coded_picture, pictures_in, closed}
+use Rattle.m2v_model.specs.Streams.{Part, sequence, group, picture, matrices, slice, unread_slice, skipped_unit, ending, over, after, value_of}
+use Rattle.m2v_model.specs.Pictures.{Store, Events, sequence_header, group_header, coded_picture, pictures_in, closed, told_by}
 use Rattle.m2v_model.specs.Pieces.{phase_after, begins_piece, piece_of, grouped, pieces}
 use Rattle.m2v_model.specs.Buffering.{before_picture, code_bits}
 use Rattle.m2v_model.specs.ByPieces.{Between, after_part, units_read}
@@ -18,7 +18,7 @@ use Rattle.m2v_model.proofs.CutLaws.{cut_cuts, cut_units, joined-append, are_bef
 use Rattle.m2v_model.proofs.PieceLaws.{piece_whole}
 use Rattle.m2v_model.proofs.EventLaws.{pictures_in-append}
 use Rattle.m2v_decode.proofs.m2v_dec_rows.UnitGifts.{IsOnward, first_value}
-use Rattle.m2v_check.proofs.Telling.{AtLast, InFront, by_units}
+use Rattle.m2v_check.proofs.Telling.{AtLast, InFront, by_units, of_last}
 
 -- ---- headers before the picture
 
@@ -65,16 +65,15 @@ Shaped b us es next = (HeadersFirst true us → PictureOnly es) × (HeadersFirst
 closed_none : (o : Option Open) (store : Store) → o ≡ None → closed o store ≡ []
 closed_none o store e = ap (λ (p : Option Open). closed p store) e
 
+shut_shaped : (b : Between) (us : Units) (next : Between) → Shaped b us (closed b.state.picture b.store) next
+shut_shaped b us next =
+    let o = closed_only b.state.picture b.store in
+    (λ h. o, λ h none. only_last (closed b.state.picture b.store) o)
+
 last_shaped : AtLast Shaped
-last_shaped b us (sequence s) l = absurd l
-last_shaped b us (group g) l = absurd l
-last_shaped b us (picture info extension) l = absurd l
-last_shaped b us (matrices m) l = absurd l
-last_shaped b us (slice row x) l = absurd l
-last_shaped b us (unread_slice row u) l = absurd l
-last_shaped b us (skipped_unit u) l = absurd l
-last_shaped b us ending l = let o = closed_only b.state.picture b.store in (λ h. o, λ h none. only_last (closed b.state.picture b.store) o)
-last_shaped b us over l = let o = closed_only b.state.picture b.store in (λ h. o, λ h none. only_last (closed b.state.picture b.store) o)
+last_shaped b us =
+    of_last (λ (p : Part). Shaped b us (told_by b.state b.store p) (after_part b p))
+    (shut_shaped b us (after_part b ending)) (shut_shaped b us (after_part b over))
 
 none_first : (us : Units) (v : ℕ) → first_value us ≡ Some v → begins_piece v ≡ true → HeadersFirst true us → ⊥
 none_first [] v e begins h = absurd cc
@@ -166,15 +165,9 @@ none_told : (o : Option Open) (store : Store) → o ≡ None → pictures_in (cl
 none_told o store e = ap pictures_in (closed_none o store e)
 
 last_pictured : AtLast IsPictured
-last_pictured b us (sequence s) l = absurd l
-last_pictured b us (group g) l = absurd l
-last_pictured b us (picture info extension) l = absurd l
-last_pictured b us (matrices m) l = absurd l
-last_pictured b us (slice row x) l = absurd l
-last_pictured b us (unread_slice row u) l = absurd l
-last_pictured b us (skipped_unit u) l = absurd l
-last_pictured b us ending l = λ shut some. absurd (some (none_told b.state.picture b.store shut))
-last_pictured b us over l = λ shut some. absurd (some (none_told b.state.picture b.store shut))
+last_pictured b us =
+    let shut : IsPictured b us (closed b.state.picture b.store) b = λ none some. absurd (some (none_told b.state.picture b.store none)) in
+    of_last (λ (p : Part). IsPictured b us (told_by b.state b.store p) (after_part b p)) shut shut
 
 plain_pictured : (b c : Between) (us mid : Units) (told es : Events) (next : Between) → IsOnward us mid → (b.state.picture ≡ None → c.state.picture ≡ None) → (b.state.picture ≡ None → pictures_in told ≡ [])
     → IsPictured c mid es next → IsPictured b us (told ++ es) next

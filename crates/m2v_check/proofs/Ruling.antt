@@ -110,27 +110,26 @@ few_pictures r notes =
 
 -- ---- rules behind all events
 
-pub rules_first : (r : Rules) (es : Events) → (rules_after r es).first ≡ first_in r.first es
+-- which headers are the first one and the last one
+rules_headers : (r : Rules) (es : Events) → ((rules_after r es).first ≡ first_in r.first es) × ((rules_after r es).sequence ≡ last_in r.sequence es)
 unfolding rules_after
-rules_first r [] = refl
-rules_first r (sequence_header s ∷ es) = rules_first (with_sequence r s) es
-rules_first r (group_header g ∷ es) = rules_first (with_group r) es
-rules_first r (coded_picture p ∷ es) = rules_first (with_coded r r.sequence p) es ∙ ap (λ (o : Option Sequence). first_in o es) (kept r.sequence)
+rules_headers r [] = (refl, refl)
+rules_headers r (sequence_header s ∷ es) = rules_headers (with_sequence r s) es
+rules_headers r (group_header g ∷ es) = rules_headers (with_group r) es
+rules_headers r (coded_picture p ∷ es) =
+    let h = rules_headers (with_coded r r.sequence p) es in
+    let k = kept r.sequence in
+    (h.0 ∙ ap (λ (o : Option Sequence). first_in o es) k.0, h.1 ∙ ap (λ (o : Option Sequence). last_in o es) k.1)
   where
-    kept : (o : Option Sequence) → (with_coded r o p).first ≡ r.first
-    kept None = refl
-    kept (Some s) = refl
+    kept : (o : Option Sequence) → ((with_coded r o p).first ≡ r.first) × ((with_coded r o p).sequence ≡ r.sequence)
+    kept None = (refl, refl)
+    kept (Some s) = (refl, refl)
+
+pub rules_first : (r : Rules) (es : Events) → (rules_after r es).first ≡ first_in r.first es
+rules_first r es = (rules_headers r es).0
 
 pub rules_sequence : (r : Rules) (es : Events) → (rules_after r es).sequence ≡ last_in r.sequence es
-unfolding rules_after
-rules_sequence r [] = refl
-rules_sequence r (sequence_header s ∷ es) = rules_sequence (with_sequence r s) es
-rules_sequence r (group_header g ∷ es) = rules_sequence (with_group r) es
-rules_sequence r (coded_picture p ∷ es) = rules_sequence (with_coded r r.sequence p) es ∙ ap (λ (o : Option Sequence). last_in o es) (kept r.sequence)
-  where
-    kept : (o : Option Sequence) → (with_coded r o p).sequence ≡ r.sequence
-    kept None = refl
-    kept (Some s) = refl
+rules_sequence r es = (rules_headers r es).1
 
 pub rules_pictures : (r : Rules) (es : Events) (o : Option Sequence) (group : ℕ) (first_in_group : Bool) (number frames : ℕ) → r.sequence ≡ o
     → (rules_after r es).pictures ≡ r.pictures + length (numbered o group first_in_group number frames es)
@@ -216,7 +215,7 @@ numbered-append (Some s) group first_in_group number frames (coded_picture p ∷
     let h = numbered-append (Some s) group false (number + 1) (if p.ends_frame then frames + 1 else frames) es fs in
     record { group = h.group; first_in_group = h.first_in_group; number = h.number; frames = h.frames; is = ap (λ (l : List Numbered). n ∷ l) h.is }
 
-numbered_none : (o : Option Sequence) (group : ℕ) (first_in_group : Bool) (number frames : ℕ) (es : Events) → pictures_in es ≡ [] → numbered o group first_in_group number frames es ≡ []
+pub numbered_none : (o : Option Sequence) (group : ℕ) (first_in_group : Bool) (number frames : ℕ) (es : Events) → pictures_in es ≡ [] → numbered o group first_in_group number frames es ≡ []
 unfolding numbered
 numbered_none o group first_in_group number frames [] e = refl
 numbered_none o group first_in_group number frames (sequence_header s ∷ es) e = numbered_none (Some s) group first_in_group number frames es e

@@ -271,18 +271,24 @@ part_says b v (skipped_unit u) h fits = record { good = h; first = refl; sequenc
 part_says b v ending h fits = absurd fits
 part_says b v over h fits = absurd fits
 
--- the last part ends the picture that is open
+-- the last part is one of two
+pub of_last : (P : Part → Type 0) → P ending → P over → (p : Part) → IsLast p → P p
+of_last P at_end at_over (sequence s) l = absurd l
+of_last P at_end at_over (group g) l = absurd l
+of_last P at_end at_over (picture info extension) l = absurd l
+of_last P at_end at_over (matrices m) l = absurd l
+of_last P at_end at_over (slice row x) l = absurd l
+of_last P at_end at_over (unread_slice row u) l = absurd l
+of_last P at_end at_over (skipped_unit u) l = absurd l
+of_last P at_end at_over ending l = at_end
+of_last P at_end at_over over l = at_over
+
+-- it ends the picture that is open
 last_says : (b : Between) (p : Part) → IsLast p → IsGoodState b.state → Says b.state (told_by b.state b.store p) (after b.state p) × ((after b.state p).picture ≡ None)
 unfolding after
-last_says b (sequence s) l h = absurd l
-last_says b (group g) l h = absurd l
-last_says b (picture info extension) l h = absurd l
-last_says b (matrices m) l h = absurd l
-last_says b (slice row x) l h = absurd l
-last_says b (unread_slice row u) l h = absurd l
-last_says b (skipped_unit u) l h = absurd l
-last_says b ending l h = (says_closed b.state b.store b.state.picture h, refl)
-last_says b over l h = (says_closed b.state b.store b.state.picture h, refl)
+last_says b p l h =
+    of_last (λ (q : Part). Says b.state (told_by b.state b.store q) (after b.state q) × ((after b.state q).picture ≡ None))
+    (says_closed b.state b.store b.state.picture h, refl) (says_closed b.state b.store b.state.picture h, refl) p l
 
 abbrev Told : Claim
 Told b us es next = IsGoodState b.state → Says b.state es next.state × (next.state.picture ≡ None)

@@ -15,6 +15,18 @@ pub struct BrokenRule {
     pub need: u128,
 }
 
+/// The breach of a rule at a picture.
+pub(crate) fn broken(rule: u8, picture: u64, have: u128, need: u128) -> BrokenRule
+    ensures { result ≡ record { rule = rule; picture = picture; have = have; need = need } }
+{
+    BrokenRule {
+        rule,
+        picture,
+        have,
+        need,
+    }
+}
+
 /// The first of two breaches.
 pub fn either(a: Option<BrokenRule>, b: Option<BrokenRule>) -> Option<BrokenRule>
     ensures value { result ≡ first_some a b }
@@ -48,13 +60,7 @@ pub fn judge(holds: bool, broken: BrokenRule) -> Option<BrokenRule>
 pub fn at_most(rule: u8, picture: u64, have: u128, need: u128) -> Option<BrokenRule>
     ensures value { told_at result ≡ at_most rule picture have need }
 {
-    let broken = BrokenRule {
-        rule,
-        picture,
-        have,
-        need,
-    };
-    judge(have <= need, broken)
+    judge(have <= need, broken(rule, picture, have, need))
 }
 
 /// A rule that what the stream has lies from one bound to another; the nearer one is needed.
@@ -62,12 +68,7 @@ pub fn within(rule: u8, picture: u64, have: u128, low: u128, high: u128) -> Opti
     ensures value { told_at result ≡ within rule picture have low high }
 {
     if have < low {
-        return Some(BrokenRule {
-            rule,
-            picture,
-            have,
-            need: low,
-        });
+        return Some(broken(rule, picture, have, low));
     }
     at_most(rule, picture, have, high)
 }

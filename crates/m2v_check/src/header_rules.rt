@@ -3,7 +3,7 @@ ghost use Rattle.std.specs.Prelude.{◌≡◌, ◌+◌, ◌*◌, ◌<◌, ◌^�
 ghost use Rattle.m2v_model.specs.Lawful.{within, at_most, level_in, limits_in, rate_of, buffer_of, level_rule, width_rule, height_rule, luma_rule, rate_rule, buffer_rule, sequence_breaches};
 ghost use Rattle.m2v_check.specs.Breaking.{found, told_at, told_by};
 
-use crate::broken::{BrokenRule, at_most, first_of, judge, within};
+use crate::broken::{BrokenRule, at_most, broken, first_of, judge, within};
 use crate::level::{Bounds, bounds_at, is_level, level_of, time_of_field};
 use m2v_model::Sequence;
 
@@ -46,13 +46,7 @@ fn level_rule(s: &Sequence) -> Option<BrokenRule>
     ensures value { told_at result ≡ level_rule s.now }
 {
     let code = s.extension.profile_and_level;
-    let broken = BrokenRule {
-        rule: 1,
-        picture: 0,
-        have: u128::from(code),
-        need: 72,
-    };
-    judge(is_level(code), broken)
+    judge(is_level(code), broken(1, 0, u128::from(code), 72))
 }
 
 /// The width of a frame.

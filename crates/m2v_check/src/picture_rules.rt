@@ -2,10 +2,10 @@
 ghost use Rattle.std.specs.Prelude.{◌≡◌, ◌<◌, ◌++◌, slice_index, slice_index_or, Bool, not, nat_eq, nat_le, ◌||◌, ◌&&◌, if◌then◌else◌, []};
 ghost use Rattle.m2v_model.specs.Headers.{uses_backward};
 ghost use Rattle.m2v_model.specs.States.{is_frame};
-ghost use Rattle.m2v_model.specs.Lawful.{at_most, level_in, most_horizontal, has_forward_vectors, f_code_of, horizontal_rule, vertical_rule, intra_rule, crowd_rule, repeat_rule, progressive_rule, precision_rule};
+ghost use Rattle.m2v_model.specs.Lawful.{at_most, level_in, most_horizontal, has_forward_vectors, f_code_of, f_code_rule, horizontal_rule, vertical_rule, intra_rule, crowd_rule, repeat_rule, progressive_rule, precision_rule};
 ghost use Rattle.m2v_check.specs.Breaking.{told_at, told_by, numbered_of, noted_picture};
 
-use crate::broken::{BrokenRule, at_most, judge};
+use crate::broken::{BrokenRule, at_most, broken, judge};
 use crate::coded::CodedPicture;
 use crate::level::{level_of, most_horizontal};
 use m2v_head::{PictureExtension, PictureInfo};
@@ -25,7 +25,7 @@ pub fn is_b(info: &PictureInfo) -> bool
 }
 
 /// A rule on an f_code, where it is used.
-fn f_code_rule(used: bool, rule: u8, picture: u64, code: u8, most: u8) -> Option<BrokenRule>
+fn f_code_at(used: bool, rule: u8, picture: u64, code: u8, most: u8) -> Option<BrokenRule>
     ensures value { told_at result ≡ (if used then at_most rule picture code most else []) }
 {
     if !used {
@@ -52,18 +52,26 @@ fn f_code(e: &PictureExtension, direction: usize, component: usize) -> u8
     pair[component]
 }
 
+/// The f_codes of a component, where they are used.
+fn f_code_rules(p: &CodedPicture, rule: u8, component: usize, most: u8) -> [Option<BrokenRule>; 2]
+    requires component { component < 2 }
+    ensures value { told_by result ≡ f_code_rule rule component (λ n. most) (numbered_of p.now) }
+{
+    let e = &p.note.extension;
+    let fore = f_code(e, 0, component);
+    let forward = f_code_at(has_forward_vectors(p), rule, p.number, fore, most);
+    let back = f_code(e, 1, component);
+    let backward = f_code_at(is_b(&p.note.info), rule, p.number, back, most);
+    [forward, backward]
+}
+
 /// Horizontal f_codes.
 #[tactic(auto, unfolding(m2v_model::specs::Lawful::horizontal_rule))]
 fn horizontal_rule(p: &CodedPicture) -> [Option<BrokenRule>; 2]
     ensures value { told_by result ≡ horizontal_rule (numbered_of p.now) }
 {
     let most = most_horizontal(level_of(p.sequence.extension.profile_and_level));
-    let e = &p.note.extension;
-    let fore = f_code(e, 0, 0);
-    let forward = f_code_rule(has_forward_vectors(p), 8, p.number, fore, most);
-    let back = f_code(e, 1, 0);
-    let backward = f_code_rule(is_b(&p.note.info), 8, p.number, back, most);
-    [forward, backward]
+    f_code_rules(p, 8, 0, most)
 }
 
 /// The greatest vertical f_code of a picture.
@@ -78,13 +86,7 @@ fn most_vertical(e: &PictureExtension) -> u8
 fn vertical_rule(p: &CodedPicture) -> [Option<BrokenRule>; 2]
     ensures value { told_by result ≡ vertical_rule (numbered_of p.now) }
 {
-    let most = most_vertical(&p.note.extension);
-    let e = &p.note.extension;
-    let fore = f_code(e, 0, 1);
-    let forward = f_code_rule(has_forward_vectors(p), 9, p.number, fore, most);
-    let back = f_code(e, 1, 1);
-    let backward = f_code_rule(is_b(&p.note.info), 9, p.number, back, most);
-    [forward, backward]
+    f_code_rules(p, 9, 1, most_vertical(&p.note.extension))
 }
 
 /// The first picture behind a group header is an I picture.
@@ -93,13 +95,10 @@ fn intra_rule(p: &CodedPicture) -> Option<BrokenRule>
     ensures value { told_at result ≡ intra_rule (numbered_of p.now) }
 {
     let kind = p.note.info.kind;
-    let broken = BrokenRule {
-        rule: 10,
-        picture: p.number,
-        have: u128::from(kind),
-        need: 1,
-    };
-    judge(!p.first_in_group || kind == 1, broken)
+    judge(
+        !p.first_in_group || kind == 1,
+        broken(10, p.number, u128::from(kind), 1),
+    )
 }
 
 /// At most two macroblocks of a row are large.
@@ -116,15 +115,12 @@ fn crowd_rule(p: &CodedPicture) -> Option<BrokenRule>
 fn repeat_rule(constant: bool, p: &CodedPicture) -> Option<BrokenRule>
     ensures value { told_at result ≡ repeat_rule constant (numbered_of p.now) }
 {
-    let broken = BrokenRule {
-        rule: 13,
-        picture: p.number,
-        have: 1,
-        need: 0,
-    };
     let e = &p.note.extension;
     let never = p.sequence.extension.progressive_sequence || !e.progressive_frame || !is_frame(e);
-    judge(!(constant && e.repeat_first_field && never), broken)
+    judge(
+        !(constant && e.repeat_first_field && never),
+        broken(13, p.number, 1, 0),
+    )
 }
 
 /// In a progressive sequence frames have frame prediction, and then they are progressive.
@@ -132,17 +128,11 @@ fn repeat_rule(constant: bool, p: &CodedPicture) -> Option<BrokenRule>
 fn progressive_rule(p: &CodedPicture) -> Option<BrokenRule>
     ensures value { told_at result ≡ progressive_rule (numbered_of p.now) }
 {
-    let broken = BrokenRule {
-        rule: 14,
-        picture: p.number,
-        have: 0,
-        need: 1,
-    };
     let e = &p.note.extension;
     let progressive = e.frame_pred_frame_dct && e.progressive_frame;
     judge(
         !p.sequence.extension.progressive_sequence || progressive,
-        broken,
+        broken(14, p.number, 0, 1),
     )
 }
 

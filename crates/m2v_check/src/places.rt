@@ -3,7 +3,7 @@
 ghost use Rattle.std.specs.Prelude.{◌≡◌, ◌+◌, ◌%◌, ◌<◌, ◌≤◌, ◌^◌, Bool};
 ghost use Rattle.m2v_check.specs.Running.{waiting_in, reference_breach, breach_at, field_breach, frame_breach, anchor_breach, all_broken, with_field, with_frame, with_low_delay, group_closed, no_places};
 
-use crate::broken::{BrokenRule, either, judge};
+use crate::broken::{BrokenRule, broken, either};
 
 /// A picture whose place isn't known yet.
 #[derive(Clone, Copy, Debug, PartialEq, Eq)]
@@ -32,17 +32,10 @@ fn reference_breach(number: u64, reference: u32, place: u64) -> Option<BrokenRul
     ensures value { result ≡ reference_breach number reference place }
 {
     let place = place % 1024;
-    let broken = BrokenRule {
-        rule: 11,
-        picture: number,
-        have: u128::from(reference),
-        need: u128::from(place),
-    };
     if u64::from(reference) == place {
-        None
-    } else {
-        Some(broken)
+        return None;
     }
+    Some(broken(11, number, u128::from(reference), u128::from(place)))
 }
 
 impl Unplaced {
