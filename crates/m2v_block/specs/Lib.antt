@@ -1,6 +1,7 @@
 pub mod Dc
 pub mod Faults
 pub mod Blocks
+pub mod Reading
 pub mod Texts
 pub mod Lengths
 pub mod Marked

@@ -1,8 +1,8 @@
 //! Escapes: a run in six bits and a level in twelve (clause 7.2.2.3 of ISO/IEC 13818-2).
-ghost use Rattle.std.specs.Prelude.{◌≡◌, ◌≢◌, ◌^◌, ◌<◌, ◌≤◌, slice_index_or, All, IfSome, IsNone, Ok, pos, true};
+ghost use Rattle.std.specs.Prelude.{◌≡◌, ◌≢◌, ◌^◌, ◌<◌, IsNone, pos, true};
 ghost use Rattle.m2v_quant.specs.Kinds.{IsLevel};
-ghost use Rattle.m2v_quant.specs.Sparse.{IsClearFrom};
-ghost use Rattle.m2v_block.specs.Blocks.{escaped, is_allowed, pair_at};
+ghost use Rattle.m2v_block.specs.Blocks.{escaped, is_allowed};
+ghost use Rattle.m2v_block.specs.Reading.{IsFilled, LooksPair};
 
 use crate::quick::set;
 use m2v_bits::BitReader;
@@ -39,24 +39,9 @@ pub fn quick_escape(
     filled: usize,
     out: &mut SparseLevels,
 ) -> Option<usize>
-    requires filled { filled ≤ 64 }
-    requires clear { IsClearFrom filled out.old.at }
-    requires levels { All IsLevel out.old.at }
-    ensures read { IfSome result (λ next. (pair_at one (record {
-      filled = filled;
-      levels = out.old.at;
-    })).read input.old.rest ≡ Ok (
-      (true, record { filled = next; levels = out.new.at }),
-      input.new.rest,
-    )) }
+    requires { IsFilled filled out.old.at }
+    ensures look { LooksPair one filled out.old.at out.new.at input.old input.new result }
     ensures none { IsNone result → out.new ≡ out.old }
-    ensures here { IsNone result → input.new ≡ input.old }
-    ensures text { input.new.text ≡ input.old.text }
-    ensures within { IfSome result (λ next. (filled < next) × (next ≤ 64)) }
-    ensures clear { IfSome result (λ next. IsClearFrom next out.new.at) }
-    ensures dc { 0 < filled → slice_index_or out.new.at 0 (pos 0)
-        ≡ slice_index_or out.old.at 0 (pos 0) }
-    ensures levels { All IsLevel out.new.at }
 {
     let bits = input.peek_inside(24)?;
     if bits >> 18 != 1 {

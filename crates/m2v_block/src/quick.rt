@@ -3,6 +3,7 @@ ghost use Rattle.m2v_bits.specs.Bits.{number, ahead};
 ghost use Rattle.m2v_quant.specs.Kinds.{IsLevel};
 ghost use Rattle.m2v_quant.specs.Sparse.{IsClearFrom};
 ghost use Rattle.m2v_block.specs.Blocks.{pair_at, pairs_at, EndsBy, Looked};
+ghost use Rattle.m2v_block.specs.Reading.{IsFilled, LooksPair};
 
 use m2v_bits::BitReader;
 use m2v_quant::SparseLevels;
@@ -325,21 +326,9 @@ pub fn quick_pairs(
 /// many places are filled then.
 #[inline(always)]
 pub fn quick_first(input: &mut BitReader, out: &mut SparseLevels) -> Option<usize>
-    requires clear { IsClearFrom 0 out.old.at }
-    requires levels { All IsLevel out.old.at }
-    ensures read { IfSome result (λ next. (pair_at false (record {
-      filled = 0;
-      levels = out.old.at;
-    })).read input.old.rest ≡ Ok (
-      (true, record { filled = next; levels = out.new.at }),
-      input.new.rest,
-    )) }
+    requires { IsFilled 0 out.old.at }
+    ensures look { LooksPair false 0 out.old.at out.new.at input.old input.new result }
     ensures none { IsNone result → out.new ≡ out.old }
-    ensures here { IsNone result → input.new ≡ input.old }
-    ensures text { input.new.text ≡ input.old.text }
-    ensures within { IfSome result (λ next. (0 < next) × (next ≤ 64)) }
-    ensures clear { IfSome result (λ next. IsClearFrom next out.new.at) }
-    ensures levels { All IsLevel out.new.at }
 {
     let nine = input.peek_inside(9)?;
     let pair = short_first(nine);
@@ -356,21 +345,9 @@ pub fn quick_first(input: &mut BitReader, out: &mut SparseLevels) -> Option<usiz
 /// many places are filled then.
 #[inline(always)]
 pub fn quick_long_first(input: &mut BitReader, out: &mut SparseLevels) -> Option<usize>
-    requires clear { IsClearFrom 0 out.old.at }
-    requires levels { All IsLevel out.old.at }
-    ensures read { IfSome result (λ next. (pair_at false (record {
-      filled = 0;
-      levels = out.old.at;
-    })).read input.old.rest ≡ Ok (
-      (true, record { filled = next; levels = out.new.at }),
-      input.new.rest,
-    )) }
+    requires { IsFilled 0 out.old.at }
+    ensures look { LooksPair false 0 out.old.at out.new.at input.old input.new result }
     ensures none { IsNone result → out.new ≡ out.old }
-    ensures here { IsNone result → input.new ≡ input.old }
-    ensures text { input.new.text ≡ input.old.text }
-    ensures within { IfSome result (λ next. (0 < next) × (next ≤ 64)) }
-    ensures clear { IfSome result (λ next. IsClearFrom next out.new.at) }
-    ensures levels { All IsLevel out.new.at }
 {
     let seventeen = input.peek_inside(17)?;
     if seventeen >= 2048 {

@@ -3,7 +3,8 @@ ghost use Rattle.m2v_bits.specs.Syntax.{Gives};
 ghost use Rattle.m2v_vlc.specs.Coefficients.{IsCoefficient};
 ghost use Rattle.m2v_quant.specs.Kinds.{IsKind, IsLevel};
 ghost use Rattle.m2v_quant.specs.Sparse.{IsClearFrom};
-ghost use Rattle.m2v_block.specs.Blocks.{IsDc, placed, escaped, is_allowed, coefficient_at, code_from, pair_at, pairs_at, opened, first_at, block_at, predictor_after, GivesScan, GivesLevels, GivesEnd};
+ghost use Rattle.m2v_block.specs.Blocks.{IsDc, placed, escaped, is_allowed, coefficient_at, code_from, opened, first_at, block_at, predictor_after, GivesScan, GivesLevels};
+ghost use Rattle.m2v_block.specs.Reading.{IsFilled, LeavesPair, ReadsPair, ReadsPairs};
 
 use crate::escape::{escaped, is_allowed, quick_escape};
 use crate::fault::BlockFault;
@@ -15,6 +16,9 @@ use m2v_quant::{BlockKind, SparseLevels};
 use m2v_vlc::CodeFault::Truncated;
 use m2v_vlc::{Coefficient, read_coefficient_one, read_coefficient_zero, read_first_zero};
 
+/// Whether a pair was read and not the end of the block, and how many places are filled then.
+type Scanned = Result<(bool, usize), BlockFault>;
+
 /// A run of zeros and a level behind it.
 #[inline(always)]
 #[tactic(auto, unfolding(crate::specs::Blocks::placed, m2v_bits::specs::Syntax::seq, m2v_bits::specs::Syntax::bind, m2v_bits::specs::Syntax::rule, m2v_bits::specs::Syntax::done))]
@@ -25,26 +29,19 @@ fn placed<'a>(
     run: u8,
     level: i32,
     out: &mut SparseLevels,
-) -> Result<(bool, usize), BlockFault>
-    requires filled { filled ≤ 64 }
+) -> Scanned
+    requires filled { IsFilled filled out.old.at }
     requires run { run < 64 }
     requires level { IsLevel level }
     requires some { level ≢ pos 0 }
     requires text { start.now.text ≡ input.old.text }
-    requires clear { IsClearFrom filled out.old.at }
-    requires levels { All IsLevel out.old.at }
     ensures exact { GivesScan result out.new.at input.new.rest
         ((placed (length start.now.rest) run level (record {
           filled = filled;
           levels = out.old.at;
         })).read input.old.rest) }
     ensures text { input.new.text ≡ input.old.text }
-    ensures within { IfOk result (λ x. (filled ≤ x.1) × (x.1 ≤ 64)) }
-    ensures clear { IfOk result (λ x. IsClearFrom x.1 out.new.at) }
-    ensures more { IfOk result (λ x. x.0 ≡ true → 0 < x.1) }
-    ensures dc { 0 < filled → slice_index_or out.new.at 0 (pos 0)
-        ≡ slice_index_or out.old.at 0 (pos 0) }
-    ensures levels { All IsLevel out.new.at }
+    ensures left { LeavesPair filled out.old.at out.new.at result }
 {
     let at = filled + run as usize;
     check(input, start, at < 64, Overrun)?;
@@ -78,22 +75,15 @@ fn coefficient<'a>(
     filled: usize,
     c: Coefficient,
     out: &mut SparseLevels,
-) -> Result<(bool, usize), BlockFault>
-    requires filled { filled ≤ 64 }
+) -> Scanned
+    requires filled { IsFilled filled out.old.at }
     requires range { IsCoefficient c }
     requires text { start.now.text ≡ input.old.text }
-    requires clear { IsClearFrom filled out.old.at }
-    requires levels { All IsLevel out.old.at }
     ensures exact { GivesScan result out.new.at input.new.rest
         ((coefficient_at (length start.now.rest) (record { filled = filled; levels = out.old.at })
         c).read input.old.rest) }
     ensures text { input.new.text ≡ input.old.text }
-    ensures within { IfOk result (λ x. (filled ≤ x.1) × (x.1 ≤ 64)) }
-    ensures clear { IfOk result (λ x. IsClearFrom x.1 out.new.at) }
-    ensures more { IfOk result (λ x. x.0 ≡ true → 0 < x.1) }
-    ensures dc { 0 < filled → slice_index_or out.new.at 0 (pos 0)
-        ≡ slice_index_or out.old.at 0 (pos 0) }
-    ensures levels { All IsLevel out.new.at }
+    ensures left { LeavesPair filled out.old.at out.new.at result }
 {
     if let Coefficient::Pair { run, level } = c {
         return placed(input, start, filled, run, i32::from(level), out);
@@ -112,24 +102,9 @@ fn coefficient<'a>(
 #[cold]
 #[inline(never)]
 #[tactic(auto, unfolding(crate::specs::Blocks::pair_at, m2v_bits::specs::Syntax::seq, m2v_bits::specs::Syntax::bind, m2v_bits::specs::Syntax::here))]
-fn pair(
-    input: &mut BitReader,
-    one: bool,
-    filled: usize,
-    out: &mut SparseLevels,
-) -> Result<(bool, usize), BlockFault>
-    requires filled { filled ≤ 64 }
-    requires clear { IsClearFrom filled out.old.at }
-    requires levels { All IsLevel out.old.at }
-    ensures exact { GivesScan result out.new.at input.new.rest
-        ((pair_at one (record { filled = filled; levels = out.old.at })).read input.old.rest) }
-    ensures text { input.new.text ≡ input.old.text }
-    ensures within { IfOk result (λ x. (filled ≤ x.1) × (x.1 ≤ 64)) }
-    ensures clear { IfOk result (λ x. IsClearFrom x.1 out.new.at) }
-    ensures more { IfOk result (λ x. x.0 ≡ true → 0 < x.1) }
-    ensures dc { 0 < filled → slice_index_or out.new.at 0 (pos 0)
-        ≡ slice_index_or out.old.at 0 (pos 0) }
-    ensures levels { All IsLevel out.new.at }
+fn pair(input: &mut BitReader, one: bool, filled: usize, out: &mut SparseLevels) -> Scanned
+    requires { IsFilled filled out.old.at }
+    ensures { ReadsPair one filled out.old.at out.new.at input.old input.new result }
 {
     let start = input.fork();
     let c = code(input, filled == 0, one)?;
@@ -139,24 +114,9 @@ fn pair(
 /// Reads a pair or the end of the block where one look doesn't tell it, by a reader of its own: the place of `input` can stay in
 /// a register.
 #[inline(always)]
-fn far_pair(
-    input: &mut BitReader,
-    one: bool,
-    filled: usize,
-    out: &mut SparseLevels,
-) -> Result<(bool, usize), BlockFault>
-    requires filled { filled ≤ 64 }
-    requires clear { IsClearFrom filled out.old.at }
-    requires levels { All IsLevel out.old.at }
-    ensures exact { GivesScan result out.new.at input.new.rest
-        ((pair_at one (record { filled = filled; levels = out.old.at })).read input.old.rest) }
-    ensures text { input.new.text ≡ input.old.text }
-    ensures within { IfOk result (λ x. (filled ≤ x.1) × (x.1 ≤ 64)) }
-    ensures clear { IfOk result (λ x. IsClearFrom x.1 out.new.at) }
-    ensures more { IfOk result (λ x. x.0 ≡ true → 0 < x.1) }
-    ensures dc { 0 < filled → slice_index_or out.new.at 0 (pos 0)
-        ≡ slice_index_or out.old.at 0 (pos 0) }
-    ensures levels { All IsLevel out.new.at }
+fn far_pair(input: &mut BitReader, one: bool, filled: usize, out: &mut SparseLevels) -> Scanned
+    requires { IsFilled filled out.old.at }
+    ensures { ReadsPair one filled out.old.at out.new.at input.old input.new result }
 {
     let mut far = input.fork();
     let read = pair(&mut far, one, filled, out);
@@ -166,23 +126,10 @@ fn far_pair(
 
 /// Reads a pair or the end of the block where no short code stands: by one look in most cases.
 #[inline(always)]
-fn next_pair(
-    input: &mut BitReader,
-    one: bool,
-    filled: usize,
-    out: &mut SparseLevels,
-) -> Result<(bool, usize), BlockFault>
-    requires filled { filled ≤ 64 }
+fn next_pair(input: &mut BitReader, one: bool, filled: usize, out: &mut SparseLevels) -> Scanned
     requires some { 0 < filled }
-    requires clear { IsClearFrom filled out.old.at }
-    requires levels { All IsLevel out.old.at }
-    ensures exact { GivesScan result out.new.at input.new.rest
-        ((pair_at one (record { filled = filled; levels = out.old.at })).read input.old.rest) }
-    ensures text { input.new.text ≡ input.old.text }
-    ensures within { IfOk result (λ x. (filled ≤ x.1) × (x.1 ≤ 64)) }
-    ensures clear { IfOk result (λ x. IsClearFrom x.1 out.new.at) }
-    ensures dc { slice_index_or out.new.at 0 (pos 0) ≡ slice_index_or out.old.at 0 (pos 0) }
-    ensures levels { All IsLevel out.new.at }
+    requires filled { IsFilled filled out.old.at }
+    ensures { ReadsPair one filled out.old.at out.new.at input.old input.new result }
 {
     if let Some(x) = quick_long(input, one, filled, out) {
         return Ok(x);
@@ -201,15 +148,9 @@ fn pairs(
     from: usize,
     out: &mut SparseLevels,
 ) -> Result<(), BlockFault>
-    requires filled { from ≤ 64 }
     requires some { 0 < from }
-    requires clear { IsClearFrom from out.old.at }
-    requires levels { All IsLevel out.old.at }
-    ensures exact { GivesEnd result out.new.at input.new.rest
-        ((pairs_at one (record { filled = from; levels = out.old.at })).read input.old.rest) }
-    ensures text { input.new.text ≡ input.old.text }
-    ensures levels { All IsLevel out.new.at }
-    ensures dc { slice_index_or out.new.at 0 (pos 0) ≡ slice_index_or out.old.at 0 (pos 0) }
+    requires filled { IsFilled from out.old.at }
+    ensures { ReadsPairs one from out.old.at out.new.at input.old input.new result }
 {
     let mut filled = from;
     loop {
@@ -229,13 +170,8 @@ fn pairs(
 /// Reads the pairs behind the DC level of an intra block: which table holds is asked once.
 #[inline(always)]
 fn pairs_by(input: &mut BitReader, one: bool, out: &mut SparseLevels) -> Result<(), BlockFault>
-    requires clear { IsClearFrom 1 out.old.at }
-    requires levels { All IsLevel out.old.at }
-    ensures exact { GivesEnd result out.new.at input.new.rest
-        ((pairs_at one (record { filled = 1; levels = out.old.at })).read input.old.rest) }
-    ensures text { input.new.text ≡ input.old.text }
-    ensures levels { All IsLevel out.new.at }
-    ensures dc { slice_index_or out.new.at 0 (pos 0) ≡ slice_index_or out.old.at 0 (pos 0) }
+    requires { IsFilled 1 out.old.at }
+    ensures { ReadsPairs one 1 out.old.at out.new.at input.old input.new result }
 {
     if one {
         return pairs(input, true, 1, out);
@@ -246,13 +182,8 @@ fn pairs_by(input: &mut BitReader, one: bool, out: &mut SparseLevels) -> Result<
 /// Reads the pairs behind the DC level of an intra block, by a reader of its own, whose place stays in a register.
 #[inline(always)]
 fn intra_pairs(input: &mut BitReader, one: bool, out: &mut SparseLevels) -> Result<(), BlockFault>
-    requires clear { IsClearFrom 1 out.old.at }
-    requires levels { All IsLevel out.old.at }
-    ensures exact { GivesEnd result out.new.at input.new.rest
-        ((pairs_at one (record { filled = 1; levels = out.old.at })).read input.old.rest) }
-    ensures text { input.new.text ≡ input.old.text }
-    ensures levels { All IsLevel out.new.at }
-    ensures dc { slice_index_or out.new.at 0 (pos 0) ≡ slice_index_or out.old.at 0 (pos 0) }
+    requires { IsFilled 1 out.old.at }
+    ensures { ReadsPairs one 1 out.old.at out.new.at input.old input.new result }
 {
     let mut ahead = input.fork();
     let read = pairs_by(&mut ahead, one, out);
@@ -262,16 +193,9 @@ fn intra_pairs(input: &mut BitReader, one: bool, out: &mut SparseLevels) -> Resu
 
 /// Reads the first pair of a block that is not intra, where no block ends: by one look in most cases.
 #[inline(always)]
-fn first_pair(input: &mut BitReader, out: &mut SparseLevels) -> Result<(bool, usize), BlockFault>
-    requires clear { IsClearFrom 0 out.old.at }
-    requires levels { All IsLevel out.old.at }
-    ensures exact { GivesScan result out.new.at input.new.rest
-        ((pair_at false (record { filled = 0; levels = out.old.at })).read input.old.rest) }
-    ensures text { input.new.text ≡ input.old.text }
-    ensures within { IfOk result (λ x. x.1 ≤ 64) }
-    ensures clear { IfOk result (λ x. IsClearFrom x.1 out.new.at) }
-    ensures more { IfOk result (λ x. x.0 ≡ true → 0 < x.1) }
-    ensures levels { All IsLevel out.new.at }
+fn first_pair(input: &mut BitReader, out: &mut SparseLevels) -> Scanned
+    requires { IsFilled 0 out.old.at }
+    ensures { ReadsPair false 0 out.old.at out.new.at input.old input.new result }
 {
     if let Some(next) = quick_first(input, out) {
         return Ok((true, next));
@@ -288,12 +212,8 @@ fn first_pair(input: &mut BitReader, out: &mut SparseLevels) -> Result<(bool, us
 /// Reads all pairs of a block that is not intra. The first of them goes by itself: none behind it can be the first.
 #[inline(always)]
 fn first_and_pairs(input: &mut BitReader, out: &mut SparseLevels) -> Result<(), BlockFault>
-    requires clear { IsClearFrom 0 out.old.at }
-    requires levels { All IsLevel out.old.at }
-    ensures exact { GivesEnd result out.new.at input.new.rest
-        ((pairs_at false (record { filled = 0; levels = out.old.at })).read input.old.rest) }
-    ensures text { input.new.text ≡ input.old.text }
-    ensures levels { All IsLevel out.new.at }
+    requires { IsFilled 0 out.old.at }
+    ensures { ReadsPairs false 0 out.old.at out.new.at input.old input.new result }
 {
     let (more, next) = first_pair(input, out)?;
     if !more {
@@ -305,12 +225,8 @@ fn first_and_pairs(input: &mut BitReader, out: &mut SparseLevels) -> Result<(), 
 /// Reads all pairs of a block that is not intra, by a reader of its own, whose place stays in a register.
 #[inline(always)]
 fn all_pairs(input: &mut BitReader, out: &mut SparseLevels) -> Result<(), BlockFault>
-    requires clear { IsClearFrom 0 out.old.at }
-    requires levels { All IsLevel out.old.at }
-    ensures exact { GivesEnd result out.new.at input.new.rest
-        ((pairs_at false (record { filled = 0; levels = out.old.at })).read input.old.rest) }
-    ensures text { input.new.text ≡ input.old.text }
-    ensures levels { All IsLevel out.new.at }
+    requires { IsFilled 0 out.old.at }
+    ensures { ReadsPairs false 0 out.old.at out.new.at input.old input.new result }
 {
     let mut ahead = input.fork();
     let read = first_and_pairs(&mut ahead, out);
@@ -332,7 +248,7 @@ fn first(input: &mut BitReader, kind: &BlockKind, predictor: i32) -> Result<i32,
     ensures none { kind.now.intra ≡ false → IfOk result (λ v. v ≡ pos 0) }
 {
     if kind.intra {
-        dc(input, kind.luma, kind.precision, predictor)
+        dc(input, kind, predictor)
     } else {
         Ok(0)
     }

@@ -1,14 +1,13 @@
 //! A macroblock that is to be decided, and where it stands.
 ghost use Rattle.std.specs.Prelude.{◌≡◌, ℕ, ◌≤◌, ◌<◌, if◌then◌else◌, pos, ◌-ℤ◌, ◌+◌, ◌*◌, nat_abs};
-ghost use Rattle.m2v_macro.specs.States.{skipped as skipped_of, skips as skips_of, pmv_before as pmv_before_of, dc_reset as dc_reset_of};
+ghost use Rattle.m2v_macro.specs.States.{skips as skips_of, dc_reset as dc_reset_of};
 ghost use Rattle.m2v_macro.specs.Conditions.{IsAddress};
 ghost use Rattle.m2v_choose.specs.Decisions.{increment_of};
 ghost use Rattle.m2v_choose.specs.Trials.{References, decided, as_first as as_first_of, IsTask, IsBefore, AreAsked};
 
 use crate::values::Limits;
-use m2v_macro::{PictureContext, SliceState};
+use m2v_macro::{PictureContext, SliceState, dc_reset, pmv_before, skips};
 use m2v_pred::Block16;
-use m2v_vector::{Motion, Pmv};
 
 /// A macroblock that is to be decided.
 #[derive(Clone, Copy)]
@@ -25,68 +24,6 @@ pub struct Task<'a> {
     pub increment: u32,
     /// A state in which it is the first of its slice, and takes the same bits.
     pub first: SliceState,
-}
-
-static STILL: Motion = Motion {
-    field_picture: false,
-    kind: 0,
-    intra: false,
-    concealment: false,
-    forward: false,
-    backward: false,
-    form: 0,
-    vectors: [[[0, 0], [0, 0]], [[0, 0], [0, 0]]],
-};
-
-/// The same motion.
-#[inline(always)]
-fn copied(m: &Motion) -> Motion
-    ensures { result ≡ m.now }
-{
-    *m
-}
-
-/// What skipped macroblocks do to the predictors of vectors.
-#[inline(always)]
-fn skipped(context: &PictureContext) -> Motion
-    ensures { result ≡ skipped_of context.now }
-{
-    let mut motion = copied(&STILL);
-    motion.field_picture = context.extension.structure != 3;
-    motion.kind = context.kind;
-    motion.concealment = context.extension.concealment;
-    motion
-}
-
-/// Whether macroblocks are skipped before this one.
-#[inline(always)]
-#[tactic(auto, unfolding(m2v_macro::specs::States::skips))]
-fn skips(state: &SliceState, increment: u32) -> bool
-    ensures { result ≡ skips_of state.now increment }
-{
-    !state.first && increment != 1
-}
-
-/// The predictors of vectors behind the macroblocks that are skipped before this one.
-#[inline(always)]
-#[tactic(auto, unfolding(m2v_macro::specs::States::pmv_before))]
-fn pmv_before(context: &PictureContext, state: &SliceState, increment: u32) -> Pmv
-    ensures { result ≡ pmv_before_of context.now state.now increment }
-{
-    if skips(state, increment) {
-        return state.pmv.after(&skipped(context));
-    }
-    state.pmv
-}
-
-/// The DC predictors as they are reset.
-#[inline(always)]
-#[tactic(auto, unfolding(m2v_macro::specs::States::dc_reset))]
-fn dc_reset(context: &PictureContext) -> [i32; 3]
-    requires { context.now.extension.dc_precision ≤ 3 }
-    ensures { result ≡ dc_reset_of context.now }
-{
-    [1 << (7 + context.extension.dc_precision); 3]
 }
 
 /// The DC predictors behind the macroblocks that are skipped before this one.

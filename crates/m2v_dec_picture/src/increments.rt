@@ -1,46 +1,14 @@
 ghost use Rattle.std.specs.Prelude.{◌≡◌, ℕ, ◌*◌, ◌≤◌, ◌^◌, IfErr, length};
 ghost use Rattle.m2v_bits.specs.Syntax.{renamed};
-ghost use Rattle.m2v_macro.specs.Macros.{round_at, increment_at};
-ghost use Rattle.m2v_macro.specs.Reading.{kept, GivesRound, GivesSum};
+ghost use Rattle.m2v_macro.specs.Macros.{increment_at};
+ghost use Rattle.m2v_macro.specs.Reading.{kept};
 ghost use Rattle.m2v_model.specs.Faults as faults;
 ghost use Rattle.m2v_model.specs.Slices.{begins_late as begins_late_of};
 ghost use Rattle.m2v_dec_picture.specs.Reads.{TellsSum};
 
 use m2v_bits::BitReader;
-use m2v_macro::MacroFault;
+use m2v_macro::increment;
 use m2v_model::{Stop, of_macro, stopped};
-use m2v_vlc::{Increment, read_increment};
-
-/// An escape, or the increment: whether another follows, and the sum so far. Sums are kept up to 2^32 - 1, far past
-/// each row's end.
-#[tactic(auto, unfolding(m2v_macro::specs::Macros::round_at, m2v_macro::specs::Macros::added, m2v_bits::specs::Syntax::seq, m2v_bits::specs::Syntax::bind, m2v_bits::specs::Syntax::renamed, m2v_bits::specs::Syntax::done))]
-fn step(input: &mut BitReader, sum: u32) -> Result<(bool, u32), MacroFault>
-    ensures exact { (n : ℕ) → sum ≡ kept n
-        → GivesRound result input.new.rest ((round_at n).read input.old.rest) }
-    ensures text { input.new.text ≡ input.old.text }
-{
-    let code = read_increment(input)?;
-    match code {
-        Increment::Step(n) => Ok((false, sum.saturating_add(u32::from(n)))),
-        Increment::Escape => Ok((true, sum.saturating_add(33))),
-    }
-}
-
-/// An increment with its escapes.
-#[tactic(auto, unfolding(m2v_macro::specs::Macros::increment_from))]
-fn increment(input: &mut BitReader) -> Result<u32, MacroFault>
-    ensures exact { GivesSum result input.new.rest (increment_at.read input.old.rest) }
-    ensures text { input.new.text ≡ input.old.text }
-{
-    let mut sum = 0;
-    loop {
-        let (more, next) = step(input, sum)?;
-        sum = next;
-        if !more {
-            return Ok(sum);
-        }
-    }
-}
 
 /// The increment that stands ahead, with its escapes (clause 6.3.17). Nothing is taken.
 #[tactic(auto, unfolding(m2v_bits::specs::Syntax::renamed))]

@@ -1,7 +1,14 @@
 -- What readers answer.
-use Rattle.std.specs.Prelude.{◌≡◌, ℕ, ◌-◌, ◌^◌, Bool, List, length, min, Result, Ok, Err}
+use Rattle.std.specs.Prelude.{◌≡◌, ℕ, ◌-◌, ◌^◌, Bool, List, length, min, IfOk, Result, Ok, Err, ℤ}
+use Rattle.m2v_bits.specs.Bits.{Unread}
+use Rattle.m2v_bits.specs.Syntax.{Gives}
+use Rattle.m2v_vector.specs.Vectors.{scale, IsVector}
 use Rattle.m2v_macro.specs.declared.fault.MacroFault.{MacroFault}
 use Rattle.m2v_macro.specs.declared.values.MacroSyntax.{MacroSyntax}
+use Rattle.m2v_macro.specs.declared.values.Selected.{Selected}
+use Rattle.m2v_macro.specs.declared.values.Shape.{Shape}
+use Rattle.m2v_macro.specs.Vectors.{component_at, selected_at}
+use Rattle.m2v_macro.specs.Conditions.{IsSelected}
 
 -- what the program keeps of an increment: what is greater passes each row's end
 abbrev pub kept : ℕ → ℕ
@@ -20,3 +27,15 @@ GivesSum (Err e) rest read = read ≡ Err (e, length rest)
 abbrev pub GivesMacro : Result (Unit {0}) MacroFault → MacroSyntax → List Bool → Result (MacroSyntax × List Bool) (MacroFault × ℕ) → Type 0
 GivesMacro (Ok _) m rest read = read ≡ Ok (m, rest)
 GivesMacro (Err e) m rest read = read ≡ Err (e, length rest)
+
+-- a component of a vector was read
+pub record ReadsComponent (f_code : ℕ) (predictor : ℤ) (old new : Unread) (result : Result ℤ MacroFault) : Type 0 where
+  pub exact : Gives result new.rest ((component_at f_code predictor).read old.rest)
+  pub text : new.text ≡ old.text
+  pub within : IfOk result (λ v. IsVector (scale f_code) v)
+
+-- a vector was read, with its reference field bit
+pub record ReadsSelected (shape : Shape) (f_code : List ℕ) (predictor : List ℤ) (old new : Unread) (result : Result Selected MacroFault) : Type 0 where
+  pub exact : Gives result new.rest ((selected_at shape f_code predictor).read old.rest)
+  pub text : new.text ≡ old.text
+  pub selected : IfOk result (λ s. IsSelected shape f_code s)

@@ -6,6 +6,7 @@ ghost use Rattle.m2v_bits.specs.Leaves.{bits_at};
 ghost use Rattle.m2v_macro.specs.Faults.{cut, flag_at};
 ghost use Rattle.m2v_macro.specs.Vectors.{shape_of as shape_as, has_residual as has_residual_of, component_at, dm_at, is_half_vector as is_half_vector_of, vertical_at, vector_at, selected_at, no_vector as no_vector_of, vectors_at, direction_at};
 ghost use Rattle.m2v_macro.specs.Conditions.{AreScales, IsPair, ArePredictors, IsHalf, IsDm, IsSelected, IsDirection};
+ghost use Rattle.m2v_macro.specs.Reading.{ReadsComponent, ReadsSelected};
 
 use crate::fault::MacroFault;
 use crate::fault::MacroFault::Code;
@@ -73,10 +74,7 @@ fn any_component(input: &mut BitReader, f_code: u8, predictor: i32) -> Result<i3
     requires least { 1 ≤ f_code }
     requires most { f_code ≤ 9 }
     requires predictor { IsVector (scale f_code) predictor }
-    ensures exact { Gives result input.new.rest
-        ((component_at f_code predictor).read input.old.rest) }
-    ensures text { input.new.text ≡ input.old.text }
-    ensures within { IfOk result (λ v. IsVector (scale f_code) v) }
+    ensures { ReadsComponent f_code predictor input.old input.new result }
 {
     let code = read_motion(input)?;
     let residual = residual(input, f_code, code)?;
@@ -90,10 +88,7 @@ fn component(input: &mut BitReader, f_code: u8, predictor: i32) -> Result<i32, M
     requires least { 1 ≤ f_code }
     requires most { f_code ≤ 9 }
     requires predictor { IsVector (scale f_code) predictor }
-    ensures exact { Gives result input.new.rest
-        ((component_at f_code predictor).read input.old.rest) }
-    ensures text { input.new.text ≡ input.old.text }
-    ensures within { IfOk result (λ v. IsVector (scale f_code) v) }
+    ensures { ReadsComponent f_code predictor input.old input.new result }
 {
     if is_still(input) {
         input.skip(1);
@@ -209,42 +204,29 @@ fn bit(input: &mut BitReader, told: bool) -> Result<bool, MacroFault>
     Ok(false)
 }
 
+/// A vector with its reference field bit.
+type Found = Result<Selected, MacroFault>;
+
 /// A vector behind its reference field bit, and that bit.
 #[inline(always)]
 #[tactic(auto, unfolding(crate::specs::Vectors::selected_at, m2v_bits::specs::Syntax::seq, m2v_bits::specs::Syntax::bind))]
-fn bit_and_vector(
-    input: &mut BitReader,
-    shape: &Shape,
-    f_code: &[u8; 2],
-    predictor: &[i32; 2],
-) -> Result<Selected, MacroFault>
+fn with_bit(input: &mut BitReader, shape: &Shape, f_code: &[u8; 2], predictor: &[i32; 2]) -> Found
     requires scales { AreScales f_code.now }
     requires predictor { IsPair f_code.now predictor.now }
-    ensures exact { Gives result input.new.rest
-        ((selected_at shape.now f_code.now predictor.now).read input.old.rest) }
-    ensures text { input.new.text ≡ input.old.text }
-    ensures selected { IfOk result (λ s. IsSelected shape.now f_code.now s) }
+    ensures { ReadsSelected shape.now f_code.now predictor.now input.old input.new result }
 {
     let bottom = bit(input, shape.bit)?;
     vector(input, shape, f_code, predictor, bottom)
 }
 
 /// A vector with its reference field bit (clause 6.2.5.2). The reader's place stays in a register meanwhile.
-fn selected<'a>(
-    input: &mut BitReader<'a>,
-    shape: &Shape,
-    f_code: &[u8; 2],
-    predictor: &[i32; 2],
-) -> Result<Selected, MacroFault>
+fn selected(input: &mut BitReader, shape: &Shape, f_code: &[u8; 2], predictor: &[i32; 2]) -> Found
     requires scales { AreScales f_code.now }
     requires predictor { IsPair f_code.now predictor.now }
-    ensures exact { Gives result input.new.rest
-        ((selected_at shape.now f_code.now predictor.now).read input.old.rest) }
-    ensures text { input.new.text ≡ input.old.text }
-    ensures selected { IfOk result (λ s. IsSelected shape.now f_code.now s) }
+    ensures { ReadsSelected shape.now f_code.now predictor.now input.old input.new result }
 {
     let mut ahead = input.fork();
-    let read = bit_and_vector(&mut ahead, shape, f_code, predictor);
+    let read = with_bit(&mut ahead, shape, f_code, predictor);
     *input = ahead;
     read
 }
@@ -264,12 +246,7 @@ pub fn no_vector() -> Selected
 /// The second vector of a direction, where there are two.
 #[inline(always)]
 #[tactic(auto, unfolding(m2v_bits::specs::Syntax::choose, m2v_bits::specs::Syntax::done))]
-fn second(
-    input: &mut BitReader,
-    shape: &Shape,
-    f_code: &[u8; 2],
-    predictor: &[i32; 2],
-) -> Result<Selected, MacroFault>
+fn second(input: &mut BitReader, shape: &Shape, f_code: &[u8; 2], predictor: &[i32; 2]) -> Found
     requires scales { AreScales f_code.now }
     requires predictor { IsPair f_code.now predictor.now }
     ensures exact { Gives result input.new.rest

@@ -1,6 +1,6 @@
 //! How many bits macroblocks with their blocks take, without writing them.
 ghost use Rattle.std.specs.Prelude.{◌≡◌, ◌*◌, ◌≤◌, ◌<◌, ◌^◌, true, false, length};
-ghost use Rattle.m2v_macro.specs.States.{after, dc_behind as dc_behind_of, skips as skips_of};
+ghost use Rattle.m2v_macro.specs.States.{after};
 ghost use Rattle.m2v_macro.specs.Conditions.{IsReady, IsAddress, IsMacro};
 ghost use Rattle.m2v_macroblock.specs.Macroblocks.{macroblock_of};
 ghost use Rattle.m2v_macroblock.specs.Texts.{block_in_text, blocks_text, text_written};
@@ -11,28 +11,6 @@ use m2v_block::quant::Levels;
 use m2v_block::{intra_bits, other_bits};
 use m2v_macro::{MacroSyntax, PictureContext, SliceState, macro_bits};
 use m2v_recon::is_coded;
-
-/// Whether macroblocks are skipped before this one.
-#[inline(always)]
-#[tactic(auto, unfolding(m2v_macro::specs::States::skips))]
-fn skips(state: &SliceState, increment: u32) -> bool
-    ensures { result ≡ skips_of state.now increment }
-{
-    !state.first && increment != 1
-}
-
-/// The DC predictors that a macroblock's blocks go by (clause 7.2.1), without the rest of the state behind its elements.
-#[inline(always)]
-#[tactic(auto, unfolding(m2v_macro::specs::States::dc_behind, m2v_macro::specs::States::dc_reset))]
-fn dc_behind(context: &PictureContext, state: &SliceState, x: &MacroSyntax) -> [i32; 3]
-    requires { context.now.extension.dc_precision ≤ 3 }
-    ensures { result ≡ dc_behind_of context.now state.now x.now }
-{
-    if x.kind.intra && !skips(state, x.increment) {
-        return state.dc;
-    }
-    [1 << (7 + context.extension.dc_precision); 3]
-}
 
 /// How many bits a block of an intra macroblock takes, by the DC predictors behind the macroblock's elements.
 #[inline(always)]
@@ -77,7 +55,7 @@ fn intra_blocks_bits(
         (after context.now state.now x.now) (macroblock_of x.now levels.now) 0 6) }
     ensures most { result ≤ 6 * 1538 }
 {
-    let dc = dc_behind(context, state, x);
+    let dc = state.dc_behind(context, x);
     let mut bits = 0;
     for block in 0..6usize {
         bits += intra_one_bits(x, levels, context, state, &dc, block);

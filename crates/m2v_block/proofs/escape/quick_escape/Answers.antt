@@ -8,8 +8,8 @@ use Rattle.m2v_block.proofs.Looks.{escape_look}
 use Rattle.m2v_block.proofs.Escapes.{escape_read}
 use Rattle.m2v_block.proofs.escape.quick_escape.Goals as goal
 
-pub returns-clause-read : goal.returns-clause-read
-returns-clause-read c =
+pub returns-clause-look : goal.returns-clause-look
+returns-clause-look c =
     let bs = c.args.input.now.rest in
     let look = c.in_ok-bits.bits in
     let s : Scan = record { filled = c.args.filled; levels = c.args.out.now.at } in
@@ -18,5 +18,13 @@ returns-clause-read c =
     let f : SFits w32 c.escaped.result = search rules in
     let level = to_z-of_z w32 c.escaped.result f ∙ c.escaped.ensures.value in
     let rest = ap (λ (u : Unread). u.rest) c.skip.ensures in
-    rw (c.set.ensures.value, level, rest)
-    (escape_read c.args.one s bs (look / 4096 % 64) (look % 4096) (sym parts.0 ∙ c.if-bits-ne1.false) left (sym parts.1) (sym parts.2) (sym c.if-not-is_allowed.ensures) c.if-at-ge64.false)
+    record {
+      read = rw (c.set.ensures.value, level, rest)
+          (escape_read c.args.one s bs (look / 4096 % 64) (look % 4096) (sym parts.0 ∙ c.if-bits-ne1.false) left (sym parts.1) (sym parts.2) (sym c.if-not-is_allowed.ensures) c.if-at-ge64.false);
+      here = search rules;
+      text = search rules;
+      within = search rules;
+      clear = search rules;
+      dc = search rules;
+      levels = search rules;
+    }
