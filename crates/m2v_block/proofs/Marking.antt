@@ -17,6 +17,7 @@ use borrow.Table.Row.{s_int}
 use mir.Syntax.{mask, ne}
 use mir.Val.{SFits}
 use Rattle.m2v_quant.specs.Kinds.{IsLevel}
+use Rattle.m2v_quant.proofs.Placed.{bit_of, is_none, is_some}
 use Rattle.m2v_block.specs.Texts.{is_zero}
 use Rattle.m2v_block.specs.Marked.{AreMarked}
 use Rattle.m2v_block.proofs.Ranges.{level_fits}
@@ -24,18 +25,6 @@ use Rattle.m2v_block.proofs.Ranges.{level_fits}
 pub zero_level : (z : ℤ) → is_zero z ≡ true → z ≡ pos 0
 zero_level (pos n) e = ap pos (eqb-true n 0 e)
 zero_level (negsuc n) e = absurd (omega (arith, eqb-true (suc n) 0 e))
-
--- the bit of a level by the test
-abbrev bit : Bool → ℕ
-bit is = cond is 0 1
-
-none : (b : Bool) → bit b ≡ 0 → b ≡ true
-none true e = refl
-none false e = absurd (omega (arith, e))
-
-some : (b : Bool) → bit b ≡ 1 → b ≡ false
-some true e = absurd (omega (arith, e))
-some false e = refl
 
 shifted : (n r k : ℕ) → bit_at (n / 2 ^ r) k ≡ bit_at n (r + k)
 shifted n r k = ap (λ (m : ℕ). m % 2) (div-div-eq-div-mul n (2 ^ r) (2 ^ k) ∙ ap (λ (m : ℕ). n / m) (sym (pow-add 2 r k)))
@@ -60,7 +49,7 @@ lanes : (zs : List ℤ) → ((k : ℕ) → SFits w32 (get_or zs k (pos 0))) → 
 lanes [] fits = refl
 lanes (z ∷ zs) fits = λ i. lane z (fits 0) i ∷ lanes zs (λ k. fits (suc k)) i
 
-turned : (b : Bool) → cond (not b) 1 0 ≡ bit b
+turned : (b : Bool) → cond (not b) 1 0 ≡ bit_of b
 turned true = refl
 turned false = refl
 
@@ -89,39 +78,39 @@ marked levels len within = λ k.
     ∙ bit_mask_l bits k
     ∙ ap (λ (b : Bool). cond b 1 0) (get_or-map (λ z. not (is_zero z)) levels k (pos 0))
     ∙ turned (is_zero (get_or levels k (pos 0)))
-    ∙ ap (λ i. bit (is_zero (get_or levels i (pos 0)))) place
+    ∙ ap (λ i. bit_of (is_zero (get_or levels i (pos 0)))) place
 
 -- nothing is marked
 pub none_marked : (levels : List ℤ) (at rest : ℕ) → AreMarked levels at rest → rest ≡ 0 → (k : ℕ) → at ≤ k → get_or levels k (pos 0) ≡ pos 0
 none_marked levels at rest marks e k le =
     let place : at + (k - at) ≡ k = omega arith in
     let low : bit_at rest (k - at) ≡ 0 = ap (λ n. bit_at n (k - at)) e ∙ bit_at-zero (k - at) in
-    ap (λ i. get_or levels i (pos 0)) (sym place) ∙ zero_level _ (none _ (sym (marks (k - at)) ∙ low))
+    ap (λ i. get_or levels i (pos 0)) (sym place) ∙ zero_level _ (is_none _ (sym (marks (k - at)) ∙ low))
 
 -- behind all levels nothing is
 pub past_marked : (levels : List ℤ) (at : ℕ) → length levels ≤ at → AreMarked levels at 0
 past_marked levels at le = λ k.
-    bit_at-zero k ∙ ap (λ z. bit (is_zero z)) (sym (get_or_past levels (at + k) (pos 0) (omega arith)))
+    bit_at-zero k ∙ ap (λ z. bit_of (is_zero z)) (sym (get_or_past levels (at + k) (pos 0) (omega arith)))
 
 pub marked_from : (levels : List ℤ) (marks from : ℕ) → AreMarked levels 0 marks → AreMarked levels from (marks / 2 ^ from)
 marked_from levels marks from h = λ k.
     let place : 0 + (from + k) ≡ from + k = omega arith in
-    shifted marks from k ∙ h (from + k) ∙ ap (λ i. bit (is_zero (get_or levels i (pos 0)))) place
+    shifted marks from k ∙ h (from + k) ∙ ap (λ i. bit_of (is_zero (get_or levels i (pos 0)))) place
 
 pub marked_behind : (levels : List ℤ) (at marks run : ℕ) → AreMarked levels at marks → AreMarked levels (at + run + 1) (marks / 2 ^ run / 2 ^ 1)
 marked_behind levels at marks run h = λ k.
     let place : at + (run + (1 + k)) ≡ at + run + 1 + k = omega arith in
-    shifted (marks / 2 ^ run) 1 k ∙ shifted marks run (1 + k) ∙ h (run + (1 + k)) ∙ ap (λ i. bit (is_zero (get_or levels i (pos 0)))) place
+    shifted (marks / 2 ^ run) 1 k ∙ shifted marks run (1 + k) ∙ h (run + (1 + k)) ∙ ap (λ i. bit_of (is_zero (get_or levels i (pos 0)))) place
 
 module _ (levels : List ℤ) (at rest r : ℕ) (len : length levels ≡ 64) (has : 0 < rest) (fits : rest < 2 ^ 64) (h : AreMarked levels at rest) (is : r ≡ trailing_zeros w64 rest) where
   lowest : bit_at rest r ≡ 1
   lowest = ap (bit_at rest) is ∙ (bit_at-trailing_zeros w64 rest has fits).1
 
   pub run_some : is_zero (get_or levels (at + r) (pos 0)) ≡ false
-  run_some = some _ (sym (h r) ∙ lowest)
+  run_some = is_some _ (sym (h r) ∙ lowest)
 
   pub run_zeros : (j : ℕ) → j < r → get_or levels (at + j) (pos 0) ≡ pos 0
-  run_zeros j lt = zero_level _ (none _ (sym (h j) ∙ (bit_at-trailing_zeros w64 rest has fits).2 j (omega (arith, is))))
+  run_zeros j lt = zero_level _ (is_none _ (sym (h j) ∙ (bit_at-trailing_zeros w64 rest has fits).2 j (omega (arith, is))))
 
   pub run_within : at + r < 64
   run_within = elim (cases_lt (at + r) 64) [

@@ -1,5 +1,5 @@
 -- A block of a macroblock as it is gained, and the most bits that a macroblock takes.
-use Rattle.std.proofs.Common.{◌≡◌, ℕ, ◌*◌, ◌≤◌, ◌^◌, Bool, true, List, length, ℤ, [], ap, subst, ◌∙◌, arith, inl, inr}
+use Rattle.std.proofs.Common.{◌≡◌, ℕ, ◌+◌, ◌*◌, ◌≤◌, ◌^◌, Bool, true, List, length, ℤ, [], ap, subst, ◌∙◌, arith, inl, inr}
 use Rattle.std.proofs.Math.ListN.{get_or-map}
 use Rattle.std.specs.Prelude.{nat_lt}
 use Rattle.std.proofs.lemmas.Bool.{cases_Bool}
@@ -35,6 +35,13 @@ one_most c st x block whole = elim (cases_Bool (is_coded x.syntax.pattern block)
   | inr off ↦ rw off (omega arith)
 ]
 
+-- the blocks of a macroblock, one by one
+pub six_blocks : (c : PictureContext) (st : SliceState) (x : Macroblock) → (let text = block_in_text c st x in
+    length (blocks_text c st x 0 6) ≡ length (text 0) + length (text 1) + length (text 2) + length (text 3) + length (text 4) + length (text 5))
+six_blocks c st x =
+    let left = left_length (block_in_text c st x) 6 in
+    omega (arith, left 0 (omega arith), left 1 (omega arith), left 2 (omega arith), left 3 (omega arith), left 4 (omega arith), left 5 (omega arith))
+
 -- six blocks of 64 levels
 pub record AreWhole (levels : List (List ℤ)) : Type 0 where
   pub first : length (block_levels levels 0) ≡ 64
@@ -52,15 +59,9 @@ are_whole levels first second third fourth blue red =
 
 blocks_most : (c : PictureContext) (st : SliceState) (x : Macroblock) → AreWhole x.levels → length (blocks_text c st x 0 6) ≤ 6 * 1538
 blocks_most c st x whole =
-    let text = block_in_text c st x in
     omega (
       arith,
-      left_length text 6 0 (omega arith),
-      left_length text 6 1 (omega arith),
-      left_length text 6 2 (omega arith),
-      left_length text 6 3 (omega arith),
-      left_length text 6 4 (omega arith),
-      left_length text 6 5 (omega arith),
+      six_blocks c st x,
       one_most c st x 0 (omega (arith, whole.first)),
       one_most c st x 1 (omega (arith, whole.second)),
       one_most c st x 2 (omega (arith, whole.third)),

@@ -1,11 +1,10 @@
 -- How many bits the blocks of a macroblock take.
-use Rattle.std.proofs.Common.{◌≡◌, ℕ, zero, suc, ◌<◌, Bool, true, false, List, [], length, ℤ, pos, refl, sym, subst, ◌∙◌, arith}
+use Rattle.std.proofs.Common.{◌≡◌, ℕ, ◌<◌, Bool, true, false, List, [], length, ℤ, pos, refl, sym, subst, ◌∙◌, arith}
 use Rattle.std.proofs.Math.ListN.{get_or-map}
 use Rattle.std.specs.Prelude.{All, nat_lt, slice_index_or}
 use Rattle.std.proofs.lemmas.Int.{to_z-of_z}
 use mir.Syntax.{w32}
 use mir.Val.{SFits, to_z, of_z}
-use Rattle.m2v_bits.proofs.Texts.{left_length}
 use Rattle.m2v_block.specs.m2v_quant.Kinds.{IsLevel}
 use Rattle.m2v_block.specs.m2v_quant.declared.kind.BlockKind.{BlockKind}
 use Rattle.m2v_block.specs.m2v_quant.declared.kind.Levels.{Levels}
@@ -17,10 +16,12 @@ use Rattle.m2v_macro.specs.declared.values.SliceState.{SliceState}
 use Rattle.m2v_macro.specs.declared.values.PictureContext.{PictureContext}
 use Rattle.m2v_recon.specs.Macro.{is_coded}
 use Rattle.m2v_recon.specs.Steps.{levels_of, level_list}
+use Rattle.m2v_recon.proofs.Samples.{off}
 use Rattle.m2v_macroblock.specs.Macroblocks.{Macroblock, macroblock_of, kind_for, block_levels, predictor}
 use Rattle.m2v_macroblock.specs.Texts.{block_in_text, blocks_text}
 use Rattle.m2v_macroblock.specs.Conditions.{IsPicture, AreBlocks, AreWritable}
 use Rattle.m2v_macroblock.proofs.DcLaws.{all_coded}
+use Rattle.m2v_macroblock.proofs.BlockTexts.{six_blocks}
 
 -- the levels of a block as the program has them
 pub own_levels : (ls : List Levels) (block : ℕ) → level_list ls block ≡ block_levels (levels_of ls) block
@@ -68,29 +69,14 @@ module _ (c : PictureContext) (st : SliceState) (m : MacroSyntax) (ls : List Lev
 pub other_within : (c : PictureContext) (st : SliceState) (m : MacroSyntax) (ls : List Levels) (block : ℕ) → block < 6 → is_coded m.pattern block ≡ true → AreBlocks c st (macroblock_of m ls) → All IsLevel (level_list ls block)
 other_within c st m ls block lt on b = subst (λ (xs : List ℤ). All IsLevel xs) (sym (own_levels ls block)) (b block lt on).within
 
-none_coded : (block : ℕ) → block < 6 → is_coded 0 block ≡ false
-none_coded zero lt = refl
-none_coded (suc zero) lt = refl
-none_coded (suc (suc zero)) lt = refl
-none_coded (suc (suc (suc zero))) lt = refl
-none_coded (suc (suc (suc (suc zero)))) lt = refl
-none_coded (suc (suc (suc (suc (suc zero))))) lt = refl
-none_coded (suc (suc (suc (suc (suc (suc n)))))) lt = absurd (omega (arith, lt))
-
 no_text : (c : PictureContext) (st : SliceState) (x : Macroblock) (block : ℕ) → x.syntax.pattern ≡ 0 → block < 6 → 0 ≡ length (block_in_text c st x block)
-no_text c st x block e lt = one_none c st x block (subst (λ (p : ℕ). is_coded p block ≡ false) (sym e) (none_coded block lt))
+no_text c st x block e lt = one_none c st x block (off x.syntax.pattern block e lt)
 
 pub no_blocks : (c : PictureContext) (st : SliceState) (x : Macroblock) → x.syntax.pattern ≡ 0 → 0 ≡ length (blocks_text c st x 0 6)
 no_blocks c st x e =
-    let text = block_in_text c st x in
     omega (
       arith,
-      left_length text 6 0 (omega arith),
-      left_length text 6 1 (omega arith),
-      left_length text 6 2 (omega arith),
-      left_length text 6 3 (omega arith),
-      left_length text 6 4 (omega arith),
-      left_length text 6 5 (omega arith),
+      six_blocks c st x,
       no_text c st x 0 e (omega arith),
       no_text c st x 1 e (omega arith),
       no_text c st x 2 e (omega arith),

@@ -9,6 +9,7 @@ use Rattle.std.proofs.lemmas.Bool.{cases_Bool}
 use Rattle.m2v_block.specs.m2v_quant.declared.kind.BlockKind.{BlockKind}
 use Rattle.m2v_block.specs.m2v_quant.declared.kind.Levels.{Levels}
 use Rattle.m2v_block.specs.Blocks.{IsDc}
+use Rattle.m2v_block.proofs.m2v_vlc.ValueLaws.{below, agree}
 use Rattle.m2v_macro.specs.declared.values.MacroSyntax.{MacroSyntax}
 use Rattle.m2v_macro.specs.declared.values.SliceState.{SliceState}
 use Rattle.m2v_macro.specs.declared.values.PictureContext.{PictureContext}
@@ -50,13 +51,8 @@ dc_left c false ls dc d h = d
 
 -- all blocks of an intra macroblock are coded
 pub all_coded : (block : ℕ) → block < 6 → is_coded 63 block ≡ true
-all_coded zero lt = refl
-all_coded (suc zero) lt = refl
-all_coded (suc (suc zero)) lt = refl
-all_coded (suc (suc (suc zero))) lt = refl
-all_coded (suc (suc (suc (suc zero)))) lt = refl
-all_coded (suc (suc (suc (suc (suc zero))))) lt = refl
-all_coded (suc (suc (suc (suc (suc (suc n)))))) lt = absurd (omega (arith, lt))
+unfolding below
+all_coded block lt = agree (is_coded 63) (λ b. true) 6 block refl lt
 
 -- so their DC levels are in their range
 levels_in : (c : PictureContext) (st : SliceState) (x : Macroblock) → IsMacro c st x.syntax → AreBlocks c st x → x.syntax.kind.intra ≡ true → (block : ℕ) → block < 6 → IsDc c.extension.dc_precision (dc_of x.levels block)

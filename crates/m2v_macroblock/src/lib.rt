@@ -7,7 +7,7 @@ mod count;
 mod modes;
 mod write;
 
-pub use blocks::{dc_after, kind_for, kinds};
+pub use blocks::{dc_after, kind_for, kinds, predictor};
 pub use count::macroblock_bits;
 pub use m2v_block as block;
 pub use m2v_block::vlc;

@@ -1,5 +1,6 @@
 -- The samples of a macroblock's planes.
-use Rattle.std.proofs.Common.{◌≡◌, ℕ, ◌+◌, ◌*◌, ◌<◌, ◌^◌, Bool, true, false, ◌&&◌, cond, zero, suc, List, length, get_or, take, drop, refl, ap, sym, ◌∙◌, arith, ℤ, pos, ◌+ℤ◌}
+use Rattle.std.proofs.Common.{◌≡◌, ℕ, ◌+◌, ◌*◌, ◌<◌, ◌^◌, Bool, true, false, ◌&&◌, cond, nat_lt, List, length, get_or, take, drop, refl, ap, sym, ◌∙◌, arith, ℤ, pos, ◌+ℤ◌}
+use Rattle.std.proofs.lemmas.Bool.{ne_eqb}
 use Rattle.std.proofs.lemmas.List.{get_or-take, get_or-drop}
 use Rattle.m2v_pred.specs.m2v_plane.declared.planes.Plane.{Plane}
 use Rattle.m2v_pred.specs.m2v_plane.declared.planes.Plane.TheVariants.{Y, Cb, Cr}
@@ -9,10 +10,10 @@ use Rattle.m2v_pred.specs.m2v_plane.Samples.{Samples, plane_by, plane_with_squar
 use Rattle.m2v_pred.proofs.m2v_plane.Places.{part_at, plane_is}
 use Rattle.m2v_pred.proofs.m2v_plane.Squares.{square_same}
 use Rattle.m2v_quant.specs.declared.kind.BlockKind.{BlockKind}
-use Rattle.m2v_pred.specs.Predicted.{block_by}
-use Rattle.m2v_pred.proofs.Blocks.{block-at}
+use Rattle.m2v_pred.specs.Predicted.{block_by, place_in}
+use Rattle.m2v_pred.proofs.Blocks.{luma_at, blue_at, red_at}
 use Rattle.m2v_recon.specs.Macro.{block_of, is_alone, is_coded, kind_at, kind_of, residual, clamped, macro_sample, plane_with, with_macroblock}
-use Rattle.m2v_recon.specs.Steps.{difference_at, own_list, rebuilt}
+use Rattle.m2v_recon.specs.Steps.{own_list, rebuilt}
 use Rattle.m2v_recon.proofs.Luma.{block_below, plus_none}
 
 -- luma samples
@@ -29,64 +30,48 @@ luma_is pred levels pattern luma chroma field samples len are =
     ∙ ap (λ (x : ℕ). clamped (pos (cond (is_alone pattern luma chroma (block_of field Y l c)) 0 x) +ℤ residual levels pattern luma chroma (block_of field Y l c)))
     (get_or-take 256 pred (16 * l + c) 0 (omega arith)))
 
+-- a chroma sample stands in its plane's one block, whatever the order of lines
+blue_place : (field : Bool) (l c : ℕ) → block_of field Cb l c ≡ record { block = 4; line = l; column = c }
+unfolding block_of
+blue_place false l c = refl
+blue_place true l c = refl
+
+red_place : (field : Bool) (l c : ℕ) → block_of field Cr l c ≡ record { block = 5; line = l; column = c }
+unfolding block_of
+red_place false l c = refl
+red_place true l c = refl
+
 -- chroma samples
-blue_residual : (lists : List (List ℤ)) (kinds : List BlockKind) (pattern : ℕ) (coded field : Bool) (l c : ℕ) → coded ≡ is_coded pattern 4
-    → difference_at coded (own_list lists 4) (kind_at kinds 1) (8 * l + c)
-    ≡ residual lists pattern (kind_at kinds 0) (kind_at kinds 1) (block_of field Cb l c)
-unfolding residual block_of
-blue_residual lists kinds pattern coded false l c told = sym (rw (← told) refl)
-blue_residual lists kinds pattern coded true l c told = sym (rw (← told) refl)
+module _ (pred : List ℕ) (lists : List (List ℤ)) (kinds : List BlockKind) (pattern : ℕ) (coded field : Bool) (samples : List ℕ) (len : length samples ≡ 64) where
+  chroma_is : (plane : Plane) (block : ℕ) (own : List ℕ) → ((l c : ℕ) → block_of field plane l c ≡ record { block = block; line = l; column = c })
+      → nat_lt block 4 ≡ false → coded ≡ is_coded pattern block
+      → ((l c : ℕ) → l < 8 → c < 8 → get_or own (8 * l + c) 0 ≡ get_or pred (place_in plane l c) 0)
+      → ((i : ℕ) → i < 64 → get_or samples i 0 ≡ rebuilt coded (own_list lists block) (kind_at kinds 1) i (get_or own i 0))
+      → samples ≡ plane_by 8 8 (macro_sample pred lists pattern (kind_at kinds 0) (kind_at kinds 1) field plane)
+  unfolding macro_sample residual
+  chroma_is plane block own place chroma told read are =
+      plane_is samples 8 8 (macro_sample pred lists pattern (kind_at kinds 0) (kind_at kinds 1) field plane) len
+      (λ l c lt small.
+      let spot : l * 8 + c ≡ 8 * l + c = omega arith in
+      ap (λ k. get_or samples k 0) spot ∙ are (8 * l + c) (omega arith)
+      ∙ sym (rw (place l c, chroma, ← told, ← read l c lt small) refl))
 
-red_residual : (lists : List (List ℤ)) (kinds : List BlockKind) (pattern : ℕ) (coded field : Bool) (l c : ℕ) → coded ≡ is_coded pattern 5
-    → difference_at coded (own_list lists 5) (kind_at kinds 1) (8 * l + c)
-    ≡ residual lists pattern (kind_at kinds 0) (kind_at kinds 1) (block_of field Cr l c)
-unfolding residual block_of
-red_residual lists kinds pattern coded false l c told = sym (rw (← told) refl)
-red_residual lists kinds pattern coded true l c told = sym (rw (← told) refl)
+  pub blue_is : coded ≡ is_coded pattern 4
+      → ((i : ℕ) → i < 64 → get_or samples i 0 ≡ rebuilt coded (own_list lists 4) (kind_at kinds 1) i (get_or (take 64 (drop 256 pred)) i 0))
+      → samples ≡ plane_by 8 8 (macro_sample pred lists pattern (kind_at kinds 0) (kind_at kinds 1) field Cb)
+  blue_is told are =
+      chroma_is Cb 4 (take 64 (drop 256 pred)) (blue_place field) refl told
+      (λ l c lt small. part_at pred 256 64 (8 * l + c) (omega arith)) are
 
--- whether they are results alone
-blue_alone : (kinds : List BlockKind) (pattern : ℕ) (coded field : Bool) (l c : ℕ) → coded ≡ is_coded pattern 4
-    → (coded && (kind_at kinds 1).intra) ≡ is_alone pattern (kind_at kinds 0) (kind_at kinds 1) (block_of field Cb l c)
-unfolding block_of
-blue_alone kinds pattern coded false l c told = ap (λ b. b && (kind_at kinds 1).intra) told
-blue_alone kinds pattern coded true l c told = ap (λ b. b && (kind_at kinds 1).intra) told
-
-red_alone : (kinds : List BlockKind) (pattern : ℕ) (coded field : Bool) (l c : ℕ) → coded ≡ is_coded pattern 5
-    → (coded && (kind_at kinds 1).intra) ≡ is_alone pattern (kind_at kinds 0) (kind_at kinds 1) (block_of field Cr l c)
-unfolding block_of
-red_alone kinds pattern coded false l c told = ap (λ b. b && (kind_at kinds 1).intra) told
-red_alone kinds pattern coded true l c told = ap (λ b. b && (kind_at kinds 1).intra) told
-
-pub blue_is : (pred : List ℕ) (lists : List (List ℤ)) (kinds : List BlockKind) (pattern : ℕ) (coded field : Bool) (samples : List ℕ) → length samples ≡ 64
-    → coded ≡ is_coded pattern 4
-    → ((i : ℕ) → i < 64 → get_or samples i 0
-    ≡ rebuilt coded (own_list lists 4) (kind_at kinds 1) i (get_or (take 64 (drop 256 pred)) i 0))
-    → samples ≡ plane_by 8 8 (macro_sample pred lists pattern (kind_at kinds 0) (kind_at kinds 1) field Cb)
-unfolding macro_sample
-blue_is pred lists kinds pattern coded field samples len told are =
-    plane_is samples 8 8 (macro_sample pred lists pattern (kind_at kinds 0) (kind_at kinds 1) field Cb) len
-    (λ l c lt small.
-    let spot : l * 8 + c ≡ 8 * l + c = omega arith in
-    let sample = part_at pred 256 64 (8 * l + c) (omega arith) in
-    let difference = blue_residual lists kinds pattern coded field l c told in
-    let alone = blue_alone kinds pattern coded field l c told in
-    ap (λ k. get_or samples k 0) spot ∙ are (8 * l + c) (omega arith) ∙ (λ i. clamped (pos (cond (alone i) 0 (sample i)) +ℤ difference i)))
-
-pub red_is : (pred : List ℕ) (lists : List (List ℤ)) (kinds : List BlockKind) (pattern : ℕ) (coded field : Bool) (samples : List ℕ) → length samples ≡ 64
-    → coded ≡ is_coded pattern 5
-    → ((i : ℕ) → i < 64 → get_or samples i 0
-    ≡ rebuilt coded (own_list lists 5) (kind_at kinds 1) i (get_or (drop 64 (drop 256 pred)) i 0))
-    → samples ≡ plane_by 8 8 (macro_sample pred lists pattern (kind_at kinds 0) (kind_at kinds 1) field Cr)
-unfolding macro_sample
-red_is pred lists kinds pattern coded field samples len told are =
-    plane_is samples 8 8 (macro_sample pred lists pattern (kind_at kinds 0) (kind_at kinds 1) field Cr) len
-    (λ l c lt small.
-    let spot : l * 8 + c ≡ 8 * l + c = omega arith in
-    let place : 256 + (64 + (8 * l + c)) ≡ 320 + (8 * l + c) = omega arith in
-    let sample = get_or-drop 64 (drop 256 pred) (8 * l + c) 0 ∙ get_or-drop 256 pred (64 + (8 * l + c)) 0 ∙ ap (λ k. get_or pred k 0) place in
-    let difference = red_residual lists kinds pattern coded field l c told in
-    let alone = red_alone kinds pattern coded field l c told in
-    ap (λ k. get_or samples k 0) spot ∙ are (8 * l + c) (omega arith) ∙ (λ i. clamped (pos (cond (alone i) 0 (sample i)) +ℤ difference i)))
+  pub red_is : coded ≡ is_coded pattern 5
+      → ((i : ℕ) → i < 64 → get_or samples i 0 ≡ rebuilt coded (own_list lists 5) (kind_at kinds 1) i (get_or (drop 64 (drop 256 pred)) i 0))
+      → samples ≡ plane_by 8 8 (macro_sample pred lists pattern (kind_at kinds 0) (kind_at kinds 1) field Cr)
+  red_is told are =
+      chroma_is Cr 5 (drop 64 (drop 256 pred)) (red_place field) refl told
+      (λ l c lt small.
+      let place : 256 + (64 + (8 * l + c)) ≡ 320 + (8 * l + c) = omega arith in
+      get_or-drop 64 (drop 256 pred) (8 * l + c) 0 ∙ get_or-drop 256 pred (64 + (8 * l + c)) 0 ∙ ap (λ k. get_or pred k 0) place)
+      are
 
 -- the three squares are the macroblock
 pub squares_are : (s : Samples) (column : ℕ) (f : Plane → ℕ → ℕ → ℕ) (xs : List ℕ) → xs ≡ block_by f
@@ -95,35 +80,23 @@ pub squares_are : (s : Samples) (column : ℕ) (f : Plane → ℕ → ℕ → �
     ≡ with_macroblock 1 0 column f s
 unfolding plane_with plane_with_square
 squares_are s column f xs is =
-    let luma = λ (r c : ℕ) (lt : r < 16) (small : c < 16).
-    get_or-take 256 xs (16 * r + c) 0 (omega arith) ∙ ap (λ zs. get_or zs (16 * r + c) 0) is ∙ block-at f Y r c lt small in
-    let blue = λ (r c : ℕ) (lt : r < 8) (small : c < 8).
-    part_at xs 256 64 (8 * r + c) (omega arith) ∙ ap (λ zs. get_or zs (256 + (8 * r + c)) 0) is ∙ block-at f Cb r c lt small in
-    let red = λ (r c : ℕ) (lt : r < 8) (small : c < 8).
-    part_at xs 320 64 (8 * r + c) (omega arith) ∙ ap (λ zs. get_or zs (320 + (8 * r + c)) 0) is ∙ block-at f Cr r c lt small in
     λ i. record {
       dims = s.dims;
-      luma = square_same 16 (columns_of s.dims Y) 16 Whole 0 column (square_of 16 (take 256 xs)) (f Y) s.luma (omega arith) luma i;
-      cb = square_same 8 (columns_of s.dims Cb) 8 Whole 0 column (square_of 8 (take 64 (drop 256 xs))) (f Cb) s.cb (omega arith) blue i;
-      cr = square_same 8 (columns_of s.dims Cr) 8 Whole 0 column (square_of 8 (take 64 (drop 320 xs))) (f Cr) s.cr (omega arith) red i;
+      luma = square_same 16 (columns_of s.dims Y) 16 Whole 0 column (square_of 16 (take 256 xs)) (f Y) s.luma (omega arith) (luma_at f xs is) i;
+      cb = square_same 8 (columns_of s.dims Cb) 8 Whole 0 column (square_of 8 (take 64 (drop 256 xs))) (f Cb) s.cb (omega arith) (blue_at f xs is) i;
+      cr = square_same 8 (columns_of s.dims Cr) 8 Whole 0 column (square_of 8 (take 64 (drop 320 xs))) (f Cr) s.cr (omega arith) (red_at f xs is) i;
     }
 
 -- a macroblock without a coded block is its prediction
-none_coded : (b : ℕ) → b < 6 → is_coded 0 b ≡ false
-none_coded zero lt = refl
-none_coded (suc zero) lt = refl
-none_coded (suc (suc zero)) lt = refl
-none_coded (suc (suc (suc zero))) lt = refl
-none_coded (suc (suc (suc (suc zero)))) lt = refl
-none_coded (suc (suc (suc (suc (suc zero))))) lt = refl
-none_coded (suc (suc (suc (suc (suc (suc n)))))) lt = absurd (omega arith)
+none_coded : (b : ℕ) → is_coded 0 b ≡ false
+none_coded b = ne_eqb _ _ (λ e. omega (arith, e))
 
 nothing_added : (coded alone : Bool) (x : ℕ) (z : ℤ) → coded ≡ false → x < 2 ^ 8 → x ≡ clamped (pos (cond (coded && alone) 0 x) +ℤ cond coded z (pos 0))
 nothing_added true alone x z e lt = absurd cc
 nothing_added false alone x z e lt = sym (plus_none x lt)
 
 pub off : (pattern b : ℕ) → pattern ≡ 0 → b < 6 → is_coded pattern b ≡ false
-off pattern b none lt = ap (λ p. is_coded p b) none ∙ none_coded b lt
+off pattern b none lt = ap (λ p. is_coded p b) none ∙ none_coded b
 
 pub luma_untouched : (xs : List ℕ) (levels : List (List ℤ)) (pattern : ℕ) (luma chroma : BlockKind) (field : Bool) → pattern ≡ 0 → ((i : ℕ) → get_or xs i 0 < 2 ^ 8)
     → (l c : ℕ) → l < 16 → c < 16 → get_or xs (16 * l + c) 0

@@ -5,9 +5,8 @@ ghost use Rattle.m2v_quant.specs.Coefficients.{coefficients_of};
 ghost use Rattle.m2v_idct.specs.Inverse.{clip, inverse_of};
 ghost use Rattle.m2v_idct.specs.Block.{nth};
 ghost use Rattle.m2v_idct.specs.Ranges.{Within};
-ghost use Rattle.m2v_pred.specs.m2v_plane.declared.planes.Plane.TheVariants.{Y};
-ghost use Rattle.m2v_recon.specs.Macro.{clamped, is_alone, is_coded, residual, block_of, kind_at};
-ghost use Rattle.m2v_recon.specs.Steps.{luma_line, luma_place, rebuilt};
+ghost use Rattle.m2v_recon.specs.Macro.{clamped, is_coded};
+ghost use Rattle.m2v_recon.specs.Steps.{luma_line, luma_place, rebuilt, AddsBlock, AreRebuilt};
 
 use crate::lanes::{eight_differences, eight_samples, nearest, plus};
 use m2v_idct::inverse_by_rows;
@@ -126,12 +125,7 @@ fn add_lines<const FIELD: bool, const INTRA: bool>(
     requires samples { length samples.old ≡ 256 }
     requires block { block < 4 }
     requires values { All (Within 30000) values.now }
-    ensures lines { (k j : ℕ) → k < 8 → j < 8
-        → slice_index samples.new (luma_place FIELD block k + j)
-        ≡ clamped (pos (cond INTRA 0 (slice_index samples.old (luma_place FIELD block k + j)))
-        +ℤ clip (nth values.now (8 * k + j))) }
-    ensures rest { (i : ℕ) → ((k j : ℕ) → k < 8 → j < 8 → i ≢ luma_place FIELD block k + j)
-        → slice_index samples.new i ≡ slice_index samples.old i }
+    ensures { AddsBlock FIELD INTRA block values.now samples.old samples.new }
 {
     for k in 0..8 {
         add_eight::<INTRA>(samples, luma_place(FIELD, block, k), values, 8 * k);
@@ -144,12 +138,7 @@ fn add_block(samples: &mut [u8], dct_field: bool, block: usize, intra: bool, val
     requires samples { length samples.old ≡ 256 }
     requires block { block < 4 }
     requires values { All (Within 30000) values.now }
-    ensures lines { (k j : ℕ) → k < 8 → j < 8
-        → slice_index samples.new (luma_place dct_field block k + j)
-        ≡ clamped (pos (cond intra 0 (slice_index samples.old (luma_place dct_field block k + j)))
-        +ℤ clip (nth values.now (8 * k + j))) }
-    ensures rest { (i : ℕ) → ((k j : ℕ) → k < 8 → j < 8 → i ≢ luma_place dct_field block k + j)
-        → slice_index samples.new i ≡ slice_index samples.old i }
+    ensures { AddsBlock dct_field intra block values.now samples.old samples.new }
 {
     match (dct_field, intra) {
         (false, false) => add_lines::<false, false>(samples, block, values),
@@ -201,12 +190,8 @@ pub fn add_luma<L: BlockLevels>(
     requires samples { length samples.old ≡ 256 }
     requires kinds { All IsKind kinds.now }
     requires levels { All (λ l. All IsLevel (L.list l)) levels.now }
-    ensures value { (l c : ℕ) → l < 16 → c < 16 → slice_index samples.new (16 * l + c)
-        ≡ clamped (
-        pos (cond (is_alone pattern (kind_at kinds.now 0) (kind_at kinds.now 1)
-        (block_of dct_field Y l c)) 0 (slice_index samples.old (16 * l + c)))
-        +ℤ residual (map L.list levels.now) pattern (kind_at kinds.now 0) (kind_at kinds.now 1)
-        (block_of dct_field Y l c)) }
+    ensures value { AreRebuilt (map L.list levels.now) pattern kinds.now dct_field samples.old
+        samples.new }
 {
     for block in 0..4 {
         let coded = is_coded(pattern, block as u32);

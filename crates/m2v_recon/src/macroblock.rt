@@ -1,10 +1,9 @@
 //! The samples of a macroblock.
-ghost use Rattle.std.specs.Prelude.{ℕ, ◌≡◌, ◌+◌, ◌*◌, ◌<◌, All, cond, length, map, slice_index, pos, ◌+ℤ◌};
-ghost use Rattle.m2v_pred.specs.m2v_plane.declared.planes.Plane.TheVariants.{Y};
+ghost use Rattle.std.specs.Prelude.{ℕ, ◌≡◌, ◌<◌, All, length, map, slice_index};
 ghost use Rattle.m2v_quant.specs.Kinds.{IsKind, IsLevel};
 ghost use Rattle.m2v_pred.specs.Predicted.{block_by};
-ghost use Rattle.m2v_recon.specs.Macro.{block_of, clamped, is_alone, is_coded, kind_at, macro_sample, residual, with_macroblock};
-ghost use Rattle.m2v_recon.specs.Steps.{own_list, rebuilt};
+ghost use Rattle.m2v_recon.specs.Macro.{is_coded, kind_at, macro_sample, with_macroblock};
+ghost use Rattle.m2v_recon.specs.Steps.{own_list, rebuilt, AreRebuilt};
 
 use crate::differences::{add_chroma, add_luma, is_coded};
 use m2v_pred::Block16;
@@ -27,12 +26,8 @@ fn rebuild_planes<L: BlockLevels>(
     requires red { length red.old ≡ 64 }
     requires kinds { All IsKind kinds.now }
     requires levels { All (λ l. All IsLevel (L.list l)) levels.now }
-    ensures luma { (l c : ℕ) → l < 16 → c < 16 → slice_index luma.new (16 * l + c)
-        ≡ clamped (
-        pos (cond (is_alone pattern (kind_at kinds.now 0) (kind_at kinds.now 1)
-        (block_of dct_field Y l c)) 0 (slice_index luma.old (16 * l + c)))
-        +ℤ residual (map L.list levels.now) pattern (kind_at kinds.now 0) (kind_at kinds.now 1)
-        (block_of dct_field Y l c)) }
+    ensures luma { AreRebuilt (map L.list levels.now) pattern kinds.now dct_field luma.old
+        luma.new }
     ensures blue { (i : ℕ) → i < 64 → slice_index blue.new i
         ≡ rebuilt (is_coded pattern 4) (own_list (map L.list levels.now) 4) (kind_at kinds.now 1) i
         (slice_index blue.old i) }

@@ -1,7 +1,7 @@
 //! The best place of a window: in whole samples first, and then half a sample around it.
 ghost use Rattle.std.specs.Prelude.{◌≡◌, ◌+◌, ◌-◌, ◌*◌, ◌≤◌, ◌⊎◌, length, slice_index};
 ghost use Rattle.m2v_search.specs.Bounds.{AreSumsFor};
-ghost use Rattle.m2v_search.specs.Spots.{spot_sad, span_of, whole_spot, half_spot, IsNear};
+ghost use Rattle.m2v_search.specs.Spots.{spot_sad, span_of, whole_spot, half_spot, IsNear, IsSought};
 
 use crate::difference::sad_of;
 use crate::passing::best_by_bounds;
@@ -9,8 +9,8 @@ use crate::scan::best_of;
 use crate::scratch::{Likely, Surroundings, with_found};
 use crate::spot::{Area, Best, Places, Spot, within_reach};
 
-/// The best place of the window: of all in whole samples, and then of those half a sample around it. The one in whole
-/// samples is a likely place for later searches.
+/// The best place of the window: of all in whole samples, the middle first, and then of those half a sample around it. The
+/// one in whole samples is a likely place for later searches.
 pub fn best_spot(
     block: &[u8],
     count: u32,
@@ -20,9 +20,7 @@ pub fn best_spot(
     down: u32,
     likely: &mut Likely,
 ) -> Best
-    requires count { (count ≡ 8) ⊎ (count ≡ 16) }
-    requires block { length block.now ≡ 16 * count }
-    requires window { length around.now.window ≡ 2304 }
+    requires sought { IsSought count block.now around.now.window }
     requires sums { let lines = span_of count down area.top area.bottom count in
         AreSumsFor count (slice_index around.now.window) lines.first (lines.end + count - 8)
         (slice_index around.now.sums) }
@@ -39,7 +37,18 @@ pub fn best_spot(
     ensures sad { result.sad ≡ spot_sad block.now count around.now.window result.spot }
     ensures near { IsNear count area (2 * across + 1) (2 * down + 1) result.spot }
 {
-    let best = best_whole(block, count, around, area, across, down, *likely);
+    let spot = Spot {
+        y: 2 * count,
+        x: 32,
+    };
+    let middle = Best {
+        spot,
+        sad: sad_of(block, count as usize, &around.window, spot),
+    };
+    let lines = within_reach(count, down, area.top, area.bottom, count);
+    let columns = within_reach(16, across, area.left, area.right, 16);
+    let places = Places { lines, columns };
+    let best = best_by_bounds(block, count as usize, around, places, *likely, middle);
     *likely = with_found(*likely, best.spot);
     best_half(
         block,
@@ -52,49 +61,6 @@ pub fn best_spot(
     )
 }
 
-/// The best place in whole samples, the middle first.
-fn best_whole(
-    block: &[u8],
-    count: u32,
-    around: &Surroundings,
-    area: Area,
-    across: u32,
-    down: u32,
-    likely: Likely,
-) -> Best
-    requires count { (count ≡ 8) ⊎ (count ≡ 16) }
-    requires block { length block.now ≡ 16 * count }
-    requires window { length around.now.window ≡ 2304 }
-    requires sums { let lines = span_of count down area.top area.bottom count in
-        AreSumsFor count (slice_index around.now.window) lines.first (lines.end + count - 8)
-        (slice_index around.now.sums) }
-    requires across { across ≤ 15 }
-    requires down { down + 1 ≤ count }
-    requires top { area.top ≤ count }
-    requires bottom { 2 * count ≤ area.bottom }
-    requires left { area.left ≤ 16 }
-    requires right { 32 ≤ area.right }
-    requires high { area.bottom ≤ 3 * count }
-    requires wide { area.right ≤ 48 }
-    ensures spot { result.spot ≡ whole_spot (spot_sad block.now count around.now.window) count area
-        across down }
-    ensures sad { result.sad ≡ spot_sad block.now count around.now.window result.spot }
-    ensures near { IsNear count area (2 * across) (2 * down) result.spot }
-{
-    let spot = Spot {
-        y: 2 * count,
-        x: 32,
-    };
-    let best = Best {
-        spot,
-        sad: sad_of(block, count as usize, &around.window, spot),
-    };
-    let lines = within_reach(count, down, area.top, area.bottom, count);
-    let columns = within_reach(16, across, area.left, area.right, 16);
-    let places = Places { lines, columns };
-    best_by_bounds(block, count as usize, around, places, likely, best)
-}
-
 /// The best place half a sample around one, that one first.
 fn best_half(
     block: &[u8],
@@ -105,9 +71,7 @@ fn best_half(
     down: u32,
     best: Best,
 ) -> Best
-    requires count { (count ≡ 8) ⊎ (count ≡ 16) }
-    requires block { length block.now ≡ 16 * count }
-    requires window { length window.now ≡ 2304 }
+    requires sought { IsSought count block.now window.now }
     requires across { across ≤ 30 }
     requires down { down + 2 ≤ 2 * count }
     requires high { area.bottom ≤ 3 * count }
@@ -122,5 +86,5 @@ fn best_half(
     let Spot { y, x } = best.spot;
     let lines = within_reach(y, 1, 2 * area.top, 2 * area.bottom, 2 * count);
     let columns = within_reach(x, 1, 2 * area.left, 2 * area.right, 32);
-    best_of(block, count as usize, window, 1, lines, columns, best)
+    best_of(block, count as usize, window, lines, columns, best)
 }

@@ -1,6 +1,6 @@
 //! The difference of a block at a place of the window.
 ghost use Rattle.std.specs.Prelude.{◌≡◌, ◌+◌, ◌*◌, ◌%◌, ◌≤◌, ◌⊎◌, ◌↔◌, IsNone, IfSome, length};
-ghost use Rattle.m2v_search.specs.Spots.{spot_sad};
+ghost use Rattle.m2v_search.specs.Spots.{spot_sad, IsSought};
 
 use crate::half::half_sad;
 use crate::spot::Spot;
@@ -15,9 +15,7 @@ pub fn spot_sad_until(
     spot: Spot,
     limit: u32,
 ) -> Option<u32>
-    requires count { (count ≡ 8) ⊎ (count ≡ 16) }
-    requires block { length block.now ≡ 16 * count }
-    requires window { length window.now ≡ 2304 }
+    requires sought { IsSought count block.now window.now }
     requires y { spot.y + 2 * count ≤ 96 }
     requires x { spot.x ≤ 64 }
     ensures none { IsNone result ↔ (limit ≤ spot_sad block.now count window.now spot) }
@@ -34,9 +32,7 @@ pub fn spot_sad_until(
 /// The same between samples.
 #[inline(never)]
 fn half_sad_until(block: &[u8], count: usize, window: &[u8], spot: Spot, limit: u32) -> Option<u32>
-    requires count { (count ≡ 8) ⊎ (count ≡ 16) }
-    requires block { length block.now ≡ 16 * count }
-    requires window { length window.now ≡ 2304 }
+    requires sought { IsSought count block.now window.now }
     requires y { spot.y + 2 * count ≤ 96 }
     requires x { spot.x ≤ 64 }
     requires half { 1 ≤ spot.y % 2 + spot.x % 2 }
@@ -49,9 +45,7 @@ fn half_sad_until(block: &[u8], count: usize, window: &[u8], spot: Spot, limit: 
 
 /// The sum of differences at whole samples.
 pub fn sad_of(block: &[u8], count: usize, window: &[u8], spot: Spot) -> u32
-    requires count { (count ≡ 8) ⊎ (count ≡ 16) }
-    requires block { length block.now ≡ 16 * count }
-    requires window { length window.now ≡ 2304 }
+    requires sought { IsSought count block.now window.now }
     requires y { spot.y + 2 * count ≤ 96 }
     requires x { spot.x ≤ 64 }
     requires line { spot.y % 2 ≡ 0 }

@@ -33,21 +33,7 @@ fn pair_far(sums: &[u16], left: u16, right: u16, k: usize) -> u16
     far(sums[k], left) + far(sums[k + 4], right)
 }
 
-/// How far those over eight lines lie from those at a place.
-#[tactic(auto, unfolding(crate::specs::Bounds::half_far))]
-#[inline(always)]
-fn half_far(sums: &[u16], parts: Parts, k: usize) -> u16
-    requires len { length sums.now ≡ 48 }
-    requires place { k < 32 }
-    requires most { (k : ℕ) → k < 44 → slice_index sums.now k ≤ 8160 }
-    requires small { HasSmall parts }
-    ensures value { result ≡ half_far parts (slice_index sums.now) k }
-    ensures most { result ≤ 32640 }
-{
-    pair_far(sums, parts.first, parts.second, k) + pair_far(sums, parts.third, parts.fourth, k + 8)
-}
-
-/// The bounds of a block of eight lines.
+/// The bounds of a block of eight lines: how far the sums over them lie from those at a place.
 #[inline(always)]
 fn bounds_by_one(sums: &[u16], parts: Parts) -> [u16; 32]
     requires len { length sums.now ≡ 48 }
@@ -59,7 +45,8 @@ fn bounds_by_one(sums: &[u16], parts: Parts) -> [u16; 32]
 {
     let mut bounds = [0; 32];
     for k in 0..32 {
-        bounds[k] = half_far(sums, parts, k);
+        bounds[k] = pair_far(sums, parts.first, parts.second, k)
+            + pair_far(sums, parts.third, parts.fourth, k + 8);
     }
     bounds
 }
@@ -78,23 +65,6 @@ fn wide_far(sums: &[u16], parts: Parts, k: usize) -> u16
     far(sums[k], parts.first + parts.second) + far(sums[k + 8], parts.third + parts.fourth)
 }
 
-/// A bound of a block of 16 lines.
-#[inline(always)]
-fn both_far(upper: &[u16], lower: &[u16], parts: Halves, k: usize) -> u16
-    requires place { k < 32 }
-    requires len { length upper.now ≡ 48 }
-    requires lower_len { length lower.now ≡ 48 }
-    requires most { (k : ℕ) → k < 40 → slice_index upper.now k ≤ 16320 }
-    requires lower_most { (k : ℕ) → k < 40 → slice_index lower.now k ≤ 16320 }
-    requires small { HasSmall parts.upper }
-    requires lower_small { HasSmall parts.lower }
-    ensures value { result ≡ wide_far parts.upper (slice_index upper.now) k
-        + wide_far parts.lower (slice_index lower.now) k }
-    ensures most { result ≤ 65280 }
-{
-    wide_far(upper, parts.upper, k) + wide_far(lower, parts.lower, k)
-}
-
 /// The bounds of a block of 16 lines.
 #[inline(always)]
 fn bounds_by_both(upper: &[u16], lower: &[u16], parts: Halves) -> [u16; 32]
@@ -111,7 +81,7 @@ fn bounds_by_both(upper: &[u16], lower: &[u16], parts: Halves) -> [u16; 32]
 {
     let mut bounds = [0; 32];
     for k in 0..32 {
-        bounds[k] = both_far(upper, lower, parts, k);
+        bounds[k] = wide_far(upper, parts.upper, k) + wide_far(lower, parts.lower, k);
     }
     bounds
 }

@@ -3,7 +3,7 @@
 ghost use Rattle.std.specs.Prelude.{ℕ, ◌≡◌, ◌+◌, ◌-◌, ◌*◌, ◌/◌, ◌≤◌, ◌<◌, ◌⊎◌, min, length, map, slice_index};
 ghost use Rattle.std.specs.List.{range_with_len};
 ghost use Rattle.m2v_search.specs.Least.{better, least};
-ghost use Rattle.m2v_search.specs.Spots.{spot_sad, spots};
+ghost use Rattle.m2v_search.specs.Spots.{spot_sad, spots, IsSought, ArePlaces};
 ghost use Rattle.m2v_search.specs.Bounds.{cut, AreSumsFor, IsEnough};
 
 use crate::difference::spot_sad_until;
@@ -51,9 +51,7 @@ fn tried_below(
     spot: Spot,
     limit: u32,
 ) -> SoFar
-    requires count { (count ≡ 8) ⊎ (count ≡ 16) }
-    requires block { length block.now ≡ 16 * count }
-    requires window { length window.now ≡ 2304 }
+    requires sought { IsSought count block.now window.now }
     requires y { spot.y + 2 * count ≤ 96 }
     requires x { spot.x ≤ 64 }
     requires known { so_far.best.sad ≡ spot_sad block.now count window.now so_far.best.spot }
@@ -90,9 +88,7 @@ fn passed_line(
     limit: u32,
     so_far: SoFar,
 ) -> SoFar
-    requires count { (count ≡ 8) ⊎ (count ≡ 16) }
-    requires block { length block.now ≡ 16 * count }
-    requires window { length window.now ≡ 2304 }
+    requires sought { IsSought count block.now window.now }
     requires y { row.y + count ≤ 48 }
     requires some { row.columns.first ≤ row.columns.end }
     requires x { row.columns.end ≤ 32 }
@@ -136,9 +132,7 @@ fn passed(
     limit: u32,
     best: Best,
 ) -> Best
-    requires count { (count ≡ 8) ⊎ (count ≡ 16) }
-    requires block { length block.now ≡ 16 * count }
-    requires window { length window.now ≡ 2304 }
+    requires sought { IsSought count block.now window.now }
     requires known_sums { AreSumsFor count (slice_index window.now) places.lines.first
         (places.lines.end + count - 8) (slice_index sums.now) }
     requires lines { places.lines.first ≤ places.lines.end }
@@ -185,13 +179,8 @@ fn limit_by(
     best: Best,
     limit: u32,
 ) -> u32
-    requires count { (count ≡ 8) ⊎ (count ≡ 16) }
-    requires block { length block.now ≡ 16 * count }
-    requires window { length window.now ≡ 2304 }
-    requires lines { places.lines.first < places.lines.end }
-    requires columns { places.columns.first < places.columns.end }
-    requires y { places.lines.end ≤ 2 * count }
-    requires x { places.columns.end ≤ 32 }
+    requires sought { IsSought count block.now window.now }
+    requires places { ArePlaces count places }
     requires enough { IsEnough (spot_sad block.now count window.now) best.spot
         (spots 2 places.lines places.columns) limit }
     ensures enough { IsEnough (spot_sad block.now count window.now) best.spot
@@ -217,13 +206,8 @@ fn limit_for(
     likely: Likely,
     best: Best,
 ) -> u32
-    requires count { (count ≡ 8) ⊎ (count ≡ 16) }
-    requires block { length block.now ≡ 16 * count }
-    requires window { length window.now ≡ 2304 }
-    requires lines { places.lines.first < places.lines.end }
-    requires columns { places.columns.first < places.columns.end }
-    requires y { places.lines.end ≤ 2 * count }
-    requires x { places.columns.end ≤ 32 }
+    requires sought { IsSought count block.now window.now }
+    requires places { ArePlaces count places }
     requires known { best.sad ≡ spot_sad block.now count window.now best.spot }
     ensures enough { IsEnough (spot_sad block.now count window.now) best.spot
         (spots 2 places.lines places.columns) result }
@@ -245,15 +229,10 @@ pub fn best_by_bounds(
     likely: Likely,
     best: Best,
 ) -> Best
-    requires count { (count ≡ 8) ⊎ (count ≡ 16) }
-    requires block { length block.now ≡ 16 * count }
-    requires window { length around.now.window ≡ 2304 }
+    requires sought { IsSought count block.now around.now.window }
     requires sums { AreSumsFor count (slice_index around.now.window) places.lines.first
         (places.lines.end + count - 8) (slice_index around.now.sums) }
-    requires lines { places.lines.first < places.lines.end }
-    requires columns { places.columns.first < places.columns.end }
-    requires y { places.lines.end ≤ 2 * count }
-    requires x { places.columns.end ≤ 32 }
+    requires places { ArePlaces count places }
     requires known { best.sad ≡ spot_sad block.now count around.now.window best.spot }
     ensures spot { result.spot ≡ least (spot_sad block.now count around.now.window) best.spot
         (spots 2 places.lines places.columns) }

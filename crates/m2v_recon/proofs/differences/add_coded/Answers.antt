@@ -12,3 +12,6 @@ returns-clause-lines g c k j lk lj =
     c.add_block.ensures.lines k j lk lj
     ∙ added c.args.coded (g.L.BlockLevels.list c.args.levels.now) c.args.kind.now (8 * k + j) (spot c.args.samples.now (luma_place c.args.dct_field c.args.block k + j)) c.differences.new.out
     c.if-not-coded.false c.differences.ensures.value (omega (arith, c.differences.array_long))
+
+pub returns-clause-rest : goal.returns-clause-rest
+returns-clause-rest g c = c.add_block.ensures.rest

@@ -15,5 +15,8 @@ loop-k-preserved g c =
           c.luma_place.ensures.value c.loop-k.invariant.rest w.before w.behind;
     }
 
-pub returns-clause-rest : goal.returns-clause-rest
-returns-clause-rest g c = λ i other. c.loop-k.invariant.rest i (λ k j lt small. other k j (omega arith) small)
+pub returns : goal.returns
+returns g c = record {
+  lines = λ k j lt small. c.loop-k.invariant.lines k j (omega arith) small;
+  rest = λ i other. c.loop-k.invariant.rest i (λ k j lt small. other k j (omega arith) small);
+}

@@ -20,8 +20,10 @@ loop-block-preserved g c =
 
 pub returns : goal.returns
 returns g c = record {
-  value = λ l x lt small.
-      luma_all c.args.dct_field c.loop-block.samples c.args.samples.now
-      (λ r y. plus (is_alone c.args.pattern (kind_at c.args.kinds.now 0) (kind_at c.args.kinds.now 1) (block_of c.args.dct_field Y r y)) (spot c.args.samples.now (16 * r + y)) (residual (map g.L.BlockLevels.list c.args.levels.now) c.args.pattern (kind_at c.args.kinds.now 0) (kind_at c.args.kinds.now 1) (block_of c.args.dct_field Y r y)))
-      c.loop-block.block l x lt small (omega arith) (c.loop-block.invariant l x lt small);
+  value = record {
+    sample = λ l x lt small.
+        luma_all c.args.dct_field c.loop-block.samples c.args.samples.now
+        (λ r y. plus (is_alone c.args.pattern (kind_at c.args.kinds.now 0) (kind_at c.args.kinds.now 1) (block_of c.args.dct_field Y r y)) (spot c.args.samples.now (16 * r + y)) (residual (map g.L.BlockLevels.list c.args.levels.now) c.args.pattern (kind_at c.args.kinds.now 0) (kind_at c.args.kinds.now 1) (block_of c.args.dct_field Y r y)))
+        c.loop-block.block l x lt small (omega arith) (c.loop-block.invariant l x lt small);
+  };
 }

@@ -14,7 +14,7 @@ returns g c =
     let front = c.split_at_mut-luma.ensures in
     let back = c.split_at_mut-blue.ensures in
     let len : length pred ≡ 384 = search rules in
-    let luma = rw front.front at c.rebuild_planes.ensures.luma in
+    let luma = rw front.front at c.rebuild_planes.ensures.luma.sample in
     let blue = rw (back.front, front.back) at c.rebuild_planes.ensures.blue in
     let red = rw (back.back, front.back) at c.rebuild_planes.ensures.red in
     record {

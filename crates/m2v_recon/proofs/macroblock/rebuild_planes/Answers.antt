@@ -6,9 +6,10 @@ use Rattle.m2v_recon.proofs.Samples.{luma_untouched, off}
 use Rattle.m2v_recon.proofs.macroblock.rebuild_planes.Goals as goal
 
 pub returns-then-pattern-eq0-clause-luma : goal.returns-then-pattern-eq0-clause-luma
-returns-then-pattern-eq0-clause-luma g c =
-    luma_untouched c.args.luma.now (map g.L.BlockLevels.list c.args.levels.now) c.args.pattern (kind_at c.args.kinds.now 0) (kind_at c.args.kinds.now 1) c.args.dct_field
-    c.if-pattern-eq0.true (λ i. (c.type_inv.luma i).fits)
+returns-then-pattern-eq0-clause-luma g c = record {
+  sample = luma_untouched c.args.luma.now (map g.L.BlockLevels.list c.args.levels.now) c.args.pattern (kind_at c.args.kinds.now 0) (kind_at c.args.kinds.now 1) c.args.dct_field
+      c.if-pattern-eq0.true (λ i. (c.type_inv.luma i).fits);
+}
 
 pub returns-then-pattern-eq0-clause-blue : goal.returns-then-pattern-eq0-clause-blue
 returns-then-pattern-eq0-clause-blue g c i lt =
