@@ -13,6 +13,7 @@ use Rattle.m2v_order.specs.Times.{intervals_of, anchor_after, interval_behind}
 use Rattle.m2v_rate.specs.Plans.{Entries, begun}
 use Rattle.m2v_rate.specs.Steady.{IsBegun}
 use Rattle.m2v_rate.proofs.Lows.{held_least, held_most, removals_at, rate_at, buffer_at}
+use Rattle.m2v_rate.proofs.Streams.{steady_none}
 use Rattle.m2v_slice.specs.Books.{picture_activities}
 use Rattle.m2v_slice.specs.Conditions.{IsSteadyLedger, IsBegunFor}
 
@@ -42,24 +43,15 @@ begun_ledger s g from settings h removals few =
     record {
       few = omega (arith, few, count);
       removals = omega (arith, removals, removals_at from n);
-      steady = record {
-        begun = record {
-          passes = h.passes;
-          rate = rate_at from n h;
-          buffer = buffer_at from n h;
-          least = held_least from n h (omega arith);
-          most = held_most from n h (omega arith);
-          timed = times_length s g.before g.pictures ∙ sym count;
-          times = subst (λ (t : Settings). All (IsInterval t) times) (sym settings) (times_are s g.before g.pictures);
-        };
-        planned = omega arith;
-        targeted = refl;
-        quantised = refl;
-        known = omega arith;
-        ahead = omega arith;
-        sizes = λ j lt. absurd (omega (arith, lt));
-        caps = λ j lt. absurd (omega (arith, lt));
-      };
+      steady = steady_none _ (record {
+        passes = h.passes;
+        rate = rate_at from n h;
+        buffer = buffer_at from n h;
+        least = held_least from n h (omega arith);
+        most = held_most from n h (omega arith);
+        timed = times_length s g.before g.pictures ∙ sym count;
+        times = subst (λ (t : Settings). All (IsInterval t) times) (sym settings) (times_are s g.before g.pictures);
+      }) refl refl refl refl;
     }
 
 pub begun_for : (s : Settings) (g : Group Samples) (from l : Entries) → from.settings ≡ s → IsBegun from

@@ -1,5 +1,5 @@
 -- Rows of reference pictures that are kept one behind another.
-use Rattle.std.proofs.Common.{◌≡◌, ◌≢◌, ℕ, ◌+◌, ◌*◌, ◌/◌, ◌%◌, ◌<◌, ◌≤◌, List, length, get_or, take, drop, ap, sym, subst, ◌∙◌, arith, inl, inr}
+use Rattle.std.proofs.Common.{◌≡◌, ◌≢◌, ℕ, ◌+◌, ◌*◌, ◌/◌, ◌%◌, ◌<◌, ◌≤◌, List, length, get_or, take, drop, ap, refl, sym, subst, ◌∙◌, arith, inl, inr}
 use borrow.Rule.Slice.PartMut.{put_mid}
 use Rattle.std.specs.Prelude.{slice_set}
 use Rattle.std.proofs.lemmas.Bool.{cases_lt, cases_eq}
@@ -123,26 +123,25 @@ plane_lines rows plane d xs w size count wide len dims is = record {
     most Cb e = omega (arith, e, size.width, size.mb_width)
     most Cr e = omega (arith, e, size.width, size.mb_width)
 
+kept_lines : (rows : List Samples) (plane : Plane) (d : Dims) (luma cb cr xs : List ℕ) (w : ℕ) → kept_rows d luma cb cr ≡ rows → IsSize d → w ≡ columns_of d plane
+    → length xs ≡ 12 * side plane * w
+    → ((k : ℕ) → plane_of (kept_row d luma cb cr k) plane ≡ plane_of_row (side plane) (columns_of d plane) xs k) → AreLines rows plane xs w
+kept_lines rows plane d luma cb cr xs w e size wide len is =
+    subst (λ (r : List Samples). AreLines r plane xs w) e
+    (plane_lines (kept_rows d luma cb cr) plane d xs w size (kept_count d luma cb cr) wide len
+    (λ k lt. ap (λ (s : Samples). s.dims) (kept_is d luma cb cr k no_samples lt)) (λ k lt. ap (λ (s : Samples). plane_of s plane) (kept_is d luma cb cr k no_samples lt) ∙ is k))
+
 pub luma_lines : (rows : List Samples) (d : Dims) (luma cb cr : List ℕ) → kept_rows d luma cb cr ≡ rows → IsSize d → length luma ≡ 192 * (16 * d.mb_width)
     → AreLines rows Y luma (16 * d.mb_width)
-luma_lines rows d luma cb cr e size len =
-    subst (λ (r : List Samples). AreLines r Y luma (16 * d.mb_width)) e
-    (plane_lines (kept_rows d luma cb cr) Y d luma (16 * d.mb_width) size (kept_count d luma cb cr) (omega arith) (omega (arith, len))
-    (λ k lt. ap (λ (s : Samples). s.dims) (kept_is d luma cb cr k no_samples lt)) (λ k lt. ap (λ (s : Samples). s.luma) (kept_is d luma cb cr k no_samples lt)))
+luma_lines rows d luma cb cr e size len = kept_lines rows Y d luma cb cr luma (16 * d.mb_width) e size (omega arith) (omega (arith, len)) (λ k. refl)
 
 pub cb_lines : (rows : List Samples) (d : Dims) (luma cb cr : List ℕ) → kept_rows d luma cb cr ≡ rows → IsSize d → length cb ≡ 96 * (8 * d.mb_width)
     → AreLines rows Cb cb (8 * d.mb_width)
-cb_lines rows d luma cb cr e size len =
-    subst (λ (r : List Samples). AreLines r Cb cb (8 * d.mb_width)) e
-    (plane_lines (kept_rows d luma cb cr) Cb d cb (8 * d.mb_width) size (kept_count d luma cb cr) (omega arith) (omega (arith, len))
-    (λ k lt. ap (λ (s : Samples). s.dims) (kept_is d luma cb cr k no_samples lt)) (λ k lt. ap (λ (s : Samples). s.cb) (kept_is d luma cb cr k no_samples lt)))
+cb_lines rows d luma cb cr e size len = kept_lines rows Cb d luma cb cr cb (8 * d.mb_width) e size (omega arith) (omega (arith, len)) (λ k. refl)
 
 pub cr_lines : (rows : List Samples) (d : Dims) (luma cb cr : List ℕ) → kept_rows d luma cb cr ≡ rows → IsSize d → length cr ≡ 96 * (8 * d.mb_width)
     → AreLines rows Cr cr (8 * d.mb_width)
-cr_lines rows d luma cb cr e size len =
-    subst (λ (r : List Samples). AreLines r Cr cr (8 * d.mb_width)) e
-    (plane_lines (kept_rows d luma cb cr) Cr d cr (8 * d.mb_width) size (kept_count d luma cb cr) (omega arith) (omega (arith, len))
-    (λ k lt. ap (λ (s : Samples). s.dims) (kept_is d luma cb cr k no_samples lt)) (λ k lt. ap (λ (s : Samples). s.cr) (kept_is d luma cb cr k no_samples lt)))
+cr_lines rows d luma cb cr e size len = kept_lines rows Cr d luma cb cr cr (8 * d.mb_width) e size (omega arith) (omega (arith, len)) (λ k. refl)
 
 -- a row for frames of the size of those that are kept
 pub same_dims : (rows : List Samples) (d x : Dims) (luma cb cr : List ℕ) (k : ℕ) → kept_rows d luma cb cr ≡ rows → k < length rows

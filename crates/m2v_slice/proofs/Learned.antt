@@ -97,6 +97,14 @@ unfolding cache_after
 first_learned b j first rest c e =
     ap (λ x. learned_of b j 0 x c) (shared_plan b first e) ∙ learn_plan b j (plan_in b first) (ledger_in b first) c
 
+-- learning a slice, behind n others
+next_slice : (b : Book) (j first : ℕ) (rest : List ℕ) (n : ℕ) (c : Cached) → IsSliceJob b (get_or rest n 0)
+    → (let x = slice_in b (get_or rest n 0) in
+    learned_so_far b j (first ∷ rest) (suc (suc n)) c ≡ learned_of b j (suc n) (part.Slice x.row (length x.text) x.work) (learned_so_far b j (first ∷ rest) (suc n) c))
+unfolding cache_after
+next_slice b j first rest n c need =
+    ap (λ x. learned_of b j (suc n) x (learned_so_far b j (first ∷ rest) (suc n) c)) (shared_slice b (get_or rest n 0) need)
+
 -- ---- rows
 
 -- of a cache that has learned a plan and n rows
@@ -109,12 +117,9 @@ pub record HasRows (b : Book) (first : ℕ) (rest : List ℕ) (n total : ℕ) (c
 next_row : (b : Book) (j first : ℕ) (rest : List ℕ) (n : ℕ) (c : Cached) → IsSliceJob b j → IsSliceJob b (get_or rest n 0)
     → learned_so_far b j (first ∷ rest) (suc (suc n)) c
     ≡ (let d = learned_so_far b j (first ∷ rest) (suc n) c in record d { rows = slice_set d.rows n (slice_in b (get_or rest n 0)).row })
-unfolding cache_after
 next_row b j first rest n c is need =
-    let d = learned_so_far b j (first ∷ rest) (suc n) c in
-    let i = get_or rest n 0 in
-    ap (λ x. learned_of b j (suc n) x d) (shared_slice b i need)
-    ∙ learn_row b j n (slice_in b i).row (length (slice_in b i).text) (slice_in b i).work d is
+    let x = slice_in b (get_or rest n 0) in
+    next_slice b j first rest n c need ∙ learn_row b j n x.row (length x.text) x.work (learned_so_far b j (first ∷ rest) (suc n) c) is
 
 pub after_rows : (b : Book) (j first : ℕ) (rest : List ℕ) (n : ℕ) (c : Cached) → IsSliceJob b j → part_of_job b first ≡ 0
     → ((k : ℕ) → k < n → IsSliceJob b (get_or rest k 0)) → n ≤ length c.rows
@@ -173,12 +178,9 @@ next_bits : (b : Book) (j first : ℕ) (rest : List ℕ) (n : ℕ) (c : Cached) 
       bits = min (d.bits + length (slice_in b (get_or rest n 0)).text) (2 ^ 64 - 1);
       work = min (d.work + (slice_in b (get_or rest n 0)).work) (2 ^ 64 - 1);
     })
-unfolding cache_after
 next_bits b j first rest n c is need =
-    let d = learned_so_far b j (first ∷ rest) (suc n) c in
-    let i = get_or rest n 0 in
-    ap (λ x. learned_of b j (suc n) x d) (shared_slice b i need)
-    ∙ learn_bits b j n (slice_in b i).row (length (slice_in b i).text) (slice_in b i).work d is
+    let x = slice_in b (get_or rest n 0) in
+    next_slice b j first rest n c need ∙ learn_bits b j n x.row (length x.text) x.work (learned_so_far b j (first ∷ rest) (suc n) c) is
 
 bounded : (x y m z : ℕ) → x ≡ m → z ≡ m + y → z < 2 ^ 64 → min (x + y) (2 ^ 64 - 1) ≡ z
 bounded x y m z e f lt = omega arith

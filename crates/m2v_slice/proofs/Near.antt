@@ -190,14 +190,14 @@ row_of_field structure plane lines line r total other field lt low high =
     (subst (λ (n : ℕ). n * r ≤ line + n) e low)
     (subst (λ (n : ℕ). line < n * r + 2 * n) e high)
 
-rows_frames : (scan : Scan) (height n : ℕ) → HasStructure scan n → n ≡ 3 → frame_rows_by scan height ≡ rows_by scan height
+pub rows_frames : (scan : Scan) (height n : ℕ) → HasStructure scan n → n ≡ 3 → frame_rows_by scan height ≡ rows_by scan height
 unfolding rows_by frame_rows_by
 rows_frames Progressive height n s e = refl
 rows_frames Frames height n s e = refl
 rows_frames Fields height n (inl s) e = absurd (omega (arith, s, e))
 rows_frames Fields height n (inr s) e = absurd (omega (arith, s, e))
 
-rows_fields : (scan : Scan) (height n : ℕ) → HasStructure scan n → (n ≡ 3 → ⊥) → frame_rows_by scan height ≡ 2 * rows_by scan height
+pub rows_fields : (scan : Scan) (height n : ℕ) → HasStructure scan n → (n ≡ 3 → ⊥) → frame_rows_by scan height ≡ 2 * rows_by scan height
 unfolding rows_by frame_rows_by
 rows_fields Progressive height n s other = absurd (other s)
 rows_fields Frames height n s other = absurd (other s)

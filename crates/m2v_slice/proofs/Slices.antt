@@ -92,65 +92,39 @@ module _ (b : Book) (h : IsBook b) (p r : ℕ) (c : Cached) (known : HasLearnedS
         value = slice_here;
       }
 
+  -- a slice of this row that is coded from these
+  abbrev pub task_in_windows : Window → Window → Samples → PictureContext → ℕ → ℕ → ℕ → List ℕ → SliceTask
+  task_in_windows v w source context q most search activities = record {
+    source = source;
+    forward = reference v.book (coded v.book v.picture) v.picture v.number;
+    backward = reference w.book (coded w.book w.picture) w.picture w.number;
+    context = context;
+    row = r;
+    q = q;
+    cap = most;
+    search = search;
+    activities = activities;
+  }
+
   -- of the same parts
   task_same : (v w : Window) (source : Samples) (context : PictureContext) (q most search : ℕ) (activities : List ℕ)
       → v ≡ window_of (forward_number (job_at b p).kind) → w ≡ window_of 0 → source ≡ get_or b.frames (job_at b p).frame no_samples
       → context ≡ context_of b.settings (job_at b p) → q ≡ c.plan.q → most ≡ slice_cap_of b.settings c.plan.cap r → search ≡ b.settings.search
       → activities ≡ slice_activities b p r
-      → (let t : SliceTask = record {
-        source = source;
-        forward = reference v.book (coded v.book v.picture) v.picture v.number;
-        backward = reference w.book (coded w.book w.picture) w.picture w.number;
-        context = context;
-        row = r;
-        q = q;
-        cap = most;
-        search = search;
-        activities = activities;
-      } in t ≡ task_of b (coded b p) p c.plan r)
+      → task_in_windows v w source context q most search activities ≡ task_of b (coded b p) p c.plan r
   unfolding task_of
-  task_same v w source context q most search activities ev ew es ec eq em er ea = λ i. record {
-    source = es i;
-    forward = reference (ev i).book (coded (ev i).book (ev i).picture) (ev i).picture (ev i).number;
-    backward = reference (ew i).book (coded (ew i).book (ew i).picture) (ew i).picture (ew i).number;
-    context = ec i;
-    row = r;
-    q = eq i;
-    cap = em i;
-    search = er i;
-    activities = ea i;
-  }
+  task_same v w source context q most search activities ev ew es ec eq em er ea = λ i. task_in_windows (ev i) (ew i) (es i) (ec i) (eq i) (em i) (er i) (ea i)
 
   pub may_code : (v w : Window) (source : Samples) (context : PictureContext) (q most search : ℕ) (activities : List ℕ) (s : Settings) (job : PictureJob)
       → v ≡ window_of (forward_number (job_at b p).kind) → w ≡ window_of 0 → source ≡ get_or b.frames (job_at b p).frame no_samples
       → s ≡ b.settings → job ≡ job_at b p → context ≡ context_of s job → q ≡ c.plan.q → most ≡ slice_cap_of s c.plan.cap r → search ≡ s.search
       → activities ≡ slice_activities b p r
-      → MayCode v w (record {
-        source = source;
-        forward = reference v.book (coded v.book v.picture) v.picture v.number;
-        backward = reference w.book (coded w.book w.picture) w.picture w.number;
-        context = context;
-        row = r;
-        q = q;
-        cap = most;
-        search = search;
-        activities = activities;
-      })
+      → MayCode v w (task_in_windows v w source context q most search activities)
   may_code v w source context q most search activities s job ev ew es et ej ec eq em er ea =
       let n = forward_number (job_at b p).kind in
       let same = task_same v w source context q most search activities ev ew es (ec ∙ ap (λ (t : Settings). context_of t job) et ∙ ap (context_of b.settings) ej) eq
       (em ∙ ap (λ (t : Settings). slice_cap_of t c.plan.cap r) et) (er ∙ ap (λ (t : Settings). t.search) et) ea in
-      let here : SliceTask = record {
-        source = source;
-        forward = reference v.book (coded v.book v.picture) v.picture v.number;
-        backward = reference w.book (coded w.book w.picture) w.picture w.number;
-        context = context;
-        row = r;
-        q = q;
-        cap = most;
-        search = search;
-        activities = activities;
-      } in
+      let here = task_in_windows v w source context q most search activities in
       subst (λ (x : Window). MayCode x w here) (sym ev)
       (subst (λ (x : Window). MayCode (window_of n) x here) (sym ew) (subst (MayCode (window_of n) (window_of 0)) (sym same) at_code))
 
