@@ -48,22 +48,13 @@ header_past b x p lt = no_picture (more b x) p (omega (arith, lt, count_more b x
 
 -- ---- anchors
 
-newer_same : (hs ks : Headers) (n : ℕ) → ((p : ℕ) → p < n → header_at hs p ≡ header_at ks p) → newer_before hs n ≡ newer_before ks n
-unfolding newer_before
-newer_same hs ks zero same = refl
-newer_same hs ks (suc n) same =
+anchors_same : (hs ks : Headers) (n : ℕ) → ((p : ℕ) → p < n → header_at hs p ≡ header_at ks p) → (newer_before hs n ≡ newer_before ks n) × (older_before hs n ≡ older_before ks n)
+unfolding newer_before older_before
+anchors_same hs ks zero same = (refl, refl)
+anchors_same hs ks (suc n) same =
     let here = same n (omega arith) in
-    let before = newer_same hs ks n (λ p lt. same p (omega (arith, lt))) in
-    λ i. cond (ends_anchor (here i)) (Behind n) (before i)
-
-older_same : (hs ks : Headers) (n : ℕ) → ((p : ℕ) → p < n → header_at hs p ≡ header_at ks p) → older_before hs n ≡ older_before ks n
-unfolding older_before
-older_same hs ks zero same = refl
-older_same hs ks (suc n) same =
-    let here = same n (omega arith) in
-    let newer = newer_same hs ks n (λ p lt. same p (omega (arith, lt))) in
-    let older = older_same hs ks n (λ p lt. same p (omega (arith, lt))) in
-    λ i. cond (ends_anchor (here i)) (newer i) (older i)
+    let before = anchors_same hs ks n (λ p lt. same p (omega (arith, lt))) in
+    (λ i. cond (ends_anchor (here i)) (Behind n) (before.0 i), λ i. cond (ends_anchor (here i)) (before.0 i) (before.1 i))
 
 there_same : (b : Batch) (x : BatchPicture) (place : FramePlace) → is_there (more b x) place ≡ is_there b place
 unfolding is_there
@@ -75,9 +66,9 @@ there_same b x (Behind p) = refl
 -- the frames before a picture don't change
 at_same : (b : Batch) (x : BatchPicture) (p : ℕ) → p ≤ length b.pictures → at_hand (more b x) p ≡ at_hand b p
 at_same b x p le =
-    let same = λ (q : ℕ) (lt : q < p). header_before b x q (omega (arith, lt, le)) in
-    let older = there_same b x (older_before (headers (more b x)) p) ∙ ap (is_there b) (older_same (headers (more b x)) (headers b) p same) in
-    let newer = there_same b x (newer_before (headers (more b x)) p) ∙ ap (is_there b) (newer_same (headers (more b x)) (headers b) p same) in
+    let same = anchors_same (headers (more b x)) (headers b) p (λ (q : ℕ) (lt : q < p). header_before b x q (omega (arith, lt, le))) in
+    let older = there_same b x (older_before (headers (more b x)) p) ∙ ap (is_there b) same.1 in
+    let newer = there_same b x (newer_before (headers (more b x)) p) ∙ ap (is_there b) same.0 in
     let first = there_same b x (first_field p) in
     λ i. record { older = older i; newer = newer i; first = first i }
 
@@ -153,9 +144,7 @@ appended b x h few opened size f fields = record {
   few = omega (arith, few, count_more b x);
   opened = All-push (λ (y : BatchPicture). IsOpened y.piece y.opened) b.pictures x h.opened opened;
   sizes = All-push (λ (y : BatchPicture). y.opened.dims ≡ b.dims) b.pictures x h.sizes size;
-  older = h.older;
-  newer = h.newer;
-  waiting = h.waiting;
+  frames_fit = h.frames_fit;
   field = field_more b x h f;
   first = first_more b x h f;
   pairs = pairs_more b x h f;

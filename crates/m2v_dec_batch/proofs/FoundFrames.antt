@@ -31,11 +31,9 @@ use Rattle.m2v_dec_batch.proofs.Ready.{ReadsAt, needs_same, found_is, held_fits,
 abbrev Frame : Type 0
 Frame = Option Samples
 
-abbrev top_by : Bool → Bool → Bool → Bool → Frame → Frame → Frame → Frame
-top_by intra b second top o n f = cond intra None (cond b o (cond (second && not top) f n))
-
-abbrev bottom_by : Bool → Bool → Bool → Bool → Frame → Frame → Frame → Frame
-bottom_by intra b second top o n f = cond intra None (cond b o (cond (second && top) f n))
+-- a field of the forward reference: it may be the first field that a second one has before it
+abbrev field_by : Bool → Bool → Bool → Bool → Frame → Frame → Frame → Frame
+field_by intra b second is_first o n f = cond intra None (cond b o (cond (second && is_first) f n))
 
 abbrev back_by : Bool → Bool → Frame → Frame
 back_by intra b n = cond intra None (cond b n None)
@@ -43,11 +41,11 @@ back_by intra b n = cond intra None (cond b n None)
 abbrev reading_by : Header → Bool → Option Reading
 reading_by h t = cond t None (Some (record { kind = h.kind; second_field = h.second; structure = h.structure }))
 
-top_is : (h : Header) (t : Bool) (o n f : Frame) → forward_top (reading_by h t) o n f ≡ top_by t (is_b h.kind) h.second (nat_eq h.structure 1) o n f
+top_is : (h : Header) (t : Bool) (o n f : Frame) → forward_top (reading_by h t) o n f ≡ field_by t (is_b h.kind) h.second (not (nat_eq h.structure 1)) o n f
 top_is h true o n f = refl
 top_is h false o n f = refl
 
-bottom_is : (h : Header) (t : Bool) (o n f : Frame) → forward_bottom (reading_by h t) o n f ≡ bottom_by t (is_b h.kind) h.second (nat_eq h.structure 1) o n f
+bottom_is : (h : Header) (t : Bool) (o n f : Frame) → forward_bottom (reading_by h t) o n f ≡ field_by t (is_b h.kind) h.second (nat_eq h.structure 1) o n f
 bottom_is h true o n f = refl
 bottom_is h false o n f = refl
 
@@ -61,19 +59,12 @@ record Alike (intra b second : Bool) (o n f o2 n2 f2 : Frame) : Type 0 where
   newer : intra ≡ false → n ≡ n2
   first : intra ≡ false → b ≡ false → second ≡ true → f ≡ f2
 
-top_alike : (intra b second top : Bool) (o n f o2 n2 f2 : Frame) → Alike intra b second o n f o2 n2 f2 → top_by intra b second top o n f ≡ top_by intra b second top o2 n2 f2
-top_alike true b second top o n f o2 n2 f2 h = refl
-top_alike false true second top o n f o2 n2 f2 h = h.older refl refl
-top_alike false false true true o n f o2 n2 f2 h = h.newer refl
-top_alike false false true false o n f o2 n2 f2 h = h.first refl refl refl
-top_alike false false false top o n f o2 n2 f2 h = h.newer refl
-
-bottom_alike : (intra b second top : Bool) (o n f o2 n2 f2 : Frame) → Alike intra b second o n f o2 n2 f2 → bottom_by intra b second top o n f ≡ bottom_by intra b second top o2 n2 f2
-bottom_alike true b second top o n f o2 n2 f2 h = refl
-bottom_alike false true second top o n f o2 n2 f2 h = h.older refl refl
-bottom_alike false false true true o n f o2 n2 f2 h = h.first refl refl refl
-bottom_alike false false true false o n f o2 n2 f2 h = h.newer refl
-bottom_alike false false false top o n f o2 n2 f2 h = h.newer refl
+field_alike : (intra b second is_first : Bool) (o n f o2 n2 f2 : Frame) → Alike intra b second o n f o2 n2 f2 → field_by intra b second is_first o n f ≡ field_by intra b second is_first o2 n2 f2
+field_alike true b second is_first o n f o2 n2 f2 h = refl
+field_alike false true second is_first o n f o2 n2 f2 h = h.older refl refl
+field_alike false false true true o n f o2 n2 f2 h = h.first refl refl refl
+field_alike false false true false o n f o2 n2 f2 h = h.newer refl
+field_alike false false false is_first o n f o2 n2 f2 h = h.newer refl
 
 back_alike : (intra b second : Bool) (o n f o2 n2 f2 : Frame) → Alike intra b second o n f o2 n2 f2 → back_by intra b n ≡ back_by intra b n2
 back_alike true b second o n f o2 n2 f2 h = refl
@@ -86,19 +77,12 @@ record AreThere (o n f o2 n2 f2 : Frame) : Type 0 where
   newer : IsSome n → IsSome n2
   first : IsSome f → IsSome f2
 
-top_there : (intra b second top : Bool) (o n f o2 n2 f2 : Frame) → AreThere o n f o2 n2 f2 → IsSome (top_by intra b second top o n f) → IsSome (top_by intra b second top o2 n2 f2)
-top_there true b second top o n f o2 n2 f2 h is = is
-top_there false true second top o n f o2 n2 f2 h is = h.older is
-top_there false false true true o n f o2 n2 f2 h is = h.newer is
-top_there false false true false o n f o2 n2 f2 h is = h.first is
-top_there false false false top o n f o2 n2 f2 h is = h.newer is
-
-bottom_there : (intra b second top : Bool) (o n f o2 n2 f2 : Frame) → AreThere o n f o2 n2 f2 → IsSome (bottom_by intra b second top o n f) → IsSome (bottom_by intra b second top o2 n2 f2)
-bottom_there true b second top o n f o2 n2 f2 h is = is
-bottom_there false true second top o n f o2 n2 f2 h is = h.older is
-bottom_there false false true true o n f o2 n2 f2 h is = h.first is
-bottom_there false false true false o n f o2 n2 f2 h is = h.newer is
-bottom_there false false false top o n f o2 n2 f2 h is = h.newer is
+field_there : (intra b second is_first : Bool) (o n f o2 n2 f2 : Frame) → AreThere o n f o2 n2 f2 → IsSome (field_by intra b second is_first o n f) → IsSome (field_by intra b second is_first o2 n2 f2)
+field_there true b second is_first o n f o2 n2 f2 h is = is
+field_there false true second is_first o n f o2 n2 f2 h is = h.older is
+field_there false false true true o n f o2 n2 f2 h is = h.first is
+field_there false false true false o n f o2 n2 f2 h is = h.newer is
+field_there false false false is_first o n f o2 n2 f2 h is = h.newer is
 
 back_there : (intra b : Bool) (o n f o2 n2 f2 : Frame) → AreThere o n f o2 n2 f2 → IsSome (back_by intra b n) → IsSome (back_by intra b n2)
 back_there true b o n f o2 n2 f2 h is = is
@@ -114,19 +98,19 @@ has_there ds h o n f o2 n2 f2 there is =
     let b = is_b h.kind in
     let top = nat_eq h.structure 1 in
     record {
-      top = λ e. subst IsSome (sym (top_is h t o2 n2 f2)) (top_there t b h.second top o n f o2 n2 f2 there (subst IsSome (top_is h t o n f) (is.top e)));
-      bottom = λ e. subst IsSome (sym (bottom_is h t o2 n2 f2)) (bottom_there t b h.second top o n f o2 n2 f2 there (subst IsSome (bottom_is h t o n f) (is.bottom e)));
+      top = λ e. subst IsSome (sym (top_is h t o2 n2 f2)) (field_there t b h.second (not top) o n f o2 n2 f2 there (subst IsSome (top_is h t o n f) (is.top e)));
+      bottom = λ e. subst IsSome (sym (bottom_is h t o2 n2 f2)) (field_there t b h.second top o n f o2 n2 f2 there (subst IsSome (bottom_is h t o n f) (is.bottom e)));
       back_top = λ e. subst IsSome (sym (back_is h t n2)) (back_there t b o n f o2 n2 f2 there (subst IsSome (back_is h t n) (is.back_top e)));
       back_bottom = λ e. subst IsSome (sym (back_is h t n2)) (back_there t b o n f o2 n2 f2 there (subst IsSome (back_is h t n) (is.back_bottom e)));
     }
 
 top_same : (h : Header) (o n f o2 n2 f2 : Frame) → Alike (nat_eq h.kind 1) (is_b h.kind) h.second o n f o2 n2 f2 → forward_top (reading_of h) o n f ≡ forward_top (reading_of h) o2 n2 f2
 top_same h o n f o2 n2 f2 a =
-    let t = nat_eq h.kind 1 in top_is h t o n f ∙ top_alike t (is_b h.kind) h.second (nat_eq h.structure 1) o n f o2 n2 f2 a ∙ sym (top_is h t o2 n2 f2)
+    let t = nat_eq h.kind 1 in top_is h t o n f ∙ field_alike t (is_b h.kind) h.second (not (nat_eq h.structure 1)) o n f o2 n2 f2 a ∙ sym (top_is h t o2 n2 f2)
 
 bottom_same : (h : Header) (o n f o2 n2 f2 : Frame) → Alike (nat_eq h.kind 1) (is_b h.kind) h.second o n f o2 n2 f2 → forward_bottom (reading_of h) o n f ≡ forward_bottom (reading_of h) o2 n2 f2
 bottom_same h o n f o2 n2 f2 a =
-    let t = nat_eq h.kind 1 in bottom_is h t o n f ∙ bottom_alike t (is_b h.kind) h.second (nat_eq h.structure 1) o n f o2 n2 f2 a ∙ sym (bottom_is h t o2 n2 f2)
+    let t = nat_eq h.kind 1 in bottom_is h t o n f ∙ field_alike t (is_b h.kind) h.second (nat_eq h.structure 1) o n f o2 n2 f2 a ∙ sym (bottom_is h t o2 n2 f2)
 
 back_same : (h : Header) (o n f o2 n2 f2 : Frame) → Alike (nat_eq h.kind 1) (is_b h.kind) h.second o n f o2 n2 f2 → backward_frame (reading_of h) n ≡ backward_frame (reading_of h) n2
 back_same h o n f o2 n2 f2 a =
@@ -218,10 +202,7 @@ read_is : (b : Batch) (j p r : ℕ) (c : DecodeCache) → p ≡ picture_of_job (
 read_is b j p r c ep er h learned ready co cn cf =
     let hs = headers b in
     let at = rows_of (decoded b j) in
-    let o = older_before hs p in
-    let n = newer_before hs p in
-    let f = first_field p in
-    let refs = references_same (header_at hs p) (frame_found b c o) (frame_found b c n) (frame_found b c f) (frame_at b at o) (frame_at b at n) (frame_at b at f) (found_alike b j p c ep h learned ready co cn cf) in
+    let refs = references_same (header_at hs p) _ _ _ _ _ _ (found_alike b j p c ep h learned ready co cn cf) in
     let is = sym (needs_same b j) ∙ ready in
     ap (λ (z : References). outcome_of (slice_get b.pictures p) z r) refs
     ∙ ap (λ (q : ℕ). outcome_of (slice_get b.pictures q) (references b at q) r) ep

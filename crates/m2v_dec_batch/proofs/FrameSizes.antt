@@ -1,6 +1,6 @@
 -- The size of a frame with rows set, and where rows lie in it.
 use Rattle.std.proofs.Common.{◌≡◌, ℕ, zero, suc, ◌+◌, ◌*◌, ◌/◌, ◌<◌, ◌≤◌, Bool, true, false, cond, length, Option, Some, None, refl, sym, ap, subst, ◌∙◌, arith, inl, inr}
-use Rattle.std.specs.Prelude.{IfSome, IsSome, nat_eq}
+use Rattle.std.specs.Prelude.{IfSome, IsSome, nat_eq, slice_get}
 use Rattle.std.proofs.lemmas.Option.{slice_get_cases}
 use Rattle.m2v_plane.specs.declared.dims.Dims.{Dims}
 use Rattle.m2v_plane.specs.declared.planes.Lines.TheVariants.{Whole, Top, Bottom}
@@ -54,14 +54,19 @@ part_fits false false r rows high e lt = omega (arith, e, lt)
 row_in_picture : (b : Batch) (x : BatchPicture) (r high : ℕ) → (header_of x).rows ≡ cond (nat_eq (header_of x).structure 3) high (high / 2) → r < (header_of x).rows → 16 * r + 16 ≤ part_of (own_lines (header_of x).structure) (16 * high)
 row_in_picture b x r high e lt = part_fits (nat_eq (header_of x).structure 3) (nat_eq (header_of x).structure 2) r (header_of x).rows high e lt
 
+-- a picture has the rows of the frame, or of a field of it
+rows_are : (b : Batch) (p : ℕ) (x : BatchPicture) → IsBatch b → slice_get b.pictures p ≡ Some x → (header_of x).rows ≡ cond (nat_eq (header_of x).structure 3) b.dims.mb_rows (b.dims.mb_rows / 2)
+rows_are b p x h is =
+    let opened = at_picture (λ (y : BatchPicture). IsOpened y.piece y.opened) b p x h.opened is in
+    let size = ap (λ (d : Dims). d.mb_rows) (at_picture (λ (y : BatchPicture). y.opened.dims ≡ b.dims) b p x h.sizes is) in
+    subst (λ (n : ℕ). (header_of x).rows ≡ cond (nat_eq (header_of x).structure 3) n (n / 2)) size opened.rows
+
 -- a row of a picture lies in a frame
 pub row_fits : (b : Batch) (p r : ℕ) → IsBatch b → r < (header_at (headers b) p).rows → 16 * r + 16 ≤ part_of (own_lines (header_at (headers b) p).structure) (16 * b.dims.mb_rows)
 row_fits b p r h lt = elim ((slice_get_cases b.pictures p).1) [
   | inl x ↦
       let is = header_is b p x.0 x.2 in
-      let opened = at_picture (λ (y : BatchPicture). IsOpened y.piece y.opened) b p x.0 h.opened x.2 in
-      let size = ap (λ (d : Dims). d.mb_rows) (at_picture (λ (y : BatchPicture). y.opened.dims ≡ b.dims) b p x.0 h.sizes x.2) in
-      let rows = subst (λ (n : ℕ). (header_of x.0).rows ≡ cond (nat_eq (header_of x.0).structure 3) n (n / 2)) size opened.rows in
+      let rows = rows_are b p x.0 h x.2 in
       subst (λ (y : Header). r < y.rows → 16 * r + 16 ≤ part_of (own_lines y.structure) (16 * b.dims.mb_rows)) (sym is) (row_in_picture b x.0 r b.dims.mb_rows rows) lt
   | inr e ↦ absurd (omega (arith, lt, ap (λ (y : Header). y.rows) (no_picture b p e.0)))
 ]
@@ -75,9 +80,7 @@ pub one_row : (b : Batch) (p : ℕ) → IsBatch b → p < length (headers b) →
 one_row b p h lt none = elim ((slice_get_cases b.pictures p).1) [
   | inl x ↦
       let is = header_is b p x.0 x.2 in
-      let opened = at_picture (λ (y : BatchPicture). IsOpened y.piece y.opened) b p x.0 h.opened x.2 in
-      let size = ap (λ (d : Dims). d.mb_rows) (at_picture (λ (y : BatchPicture). y.opened.dims ≡ b.dims) b p x.0 h.sizes x.2) in
-      let rows = subst (λ (n : ℕ). (header_of x.0).rows ≡ cond (nat_eq (header_of x.0).structure 3) n (n / 2)) size opened.rows in
+      let rows = rows_are b p x.0 h x.2 in
       omega (arith, few_rows (nat_eq (header_of x.0).structure 3) (header_of x.0).rows b.dims.mb_rows rows (sym (ap (λ (y : Header). y.rows) is) ∙ none), h.size.tall, h.size.covered)
   | inr e ↦ absurd (omega (arith, lt, e.0, count_is b))
 ]

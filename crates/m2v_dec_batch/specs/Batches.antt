@@ -6,6 +6,7 @@ use Rattle.m2v_plane.specs.Samples.{Samples, blank, with_row}
 use Rattle.m2v_plane.specs.Fields.{or_none}
 use Rattle.m2v_pred.specs.Motion.{own_lines}
 use Rattle.m2v_model.specs.Samples.{References}
+use Rattle.m2v_dec_rows.specs.m2v_dec_picture.declared.gallery.FramesAtHand.{FramesAtHand}
 use Rattle.m2v_dec_rows.specs.m2v_dec_picture.declared.gallery.Reading.{Reading}
 use Rattle.m2v_dec_rows.specs.m2v_dec_picture.Frames.{Frames, references_in, HasReferences}
 use Rattle.m2v_dec_rows.specs.Opened.{IsOpened}
@@ -101,6 +102,12 @@ pub record ArePair (first next : Header) : Type 0 where
   pub is_field : first.structure ≤ 2
   pub parity : first.structure + next.structure ≡ 3
 
+-- the frames at hand have a size
+pub record HaveDims (d : Dims) (f : FramesAtHand) : Type 0 where
+  pub older : IfSome f.older (λ x. x.dims ≡ d)
+  pub newer : IfSome f.newer (λ x. x.dims ≡ d)
+  pub waiting : IfSome f.waiting (λ x. x.dims ≡ d)
+
 -- A batch: at most 16 pictures of one size, whose headers were read. A second field follows its first field, or that waits;
 -- and each field that a picture may read is there, in the batch or before it.
 pub record IsBatch (b : Batch) : Type 0 where
@@ -108,9 +115,8 @@ pub record IsBatch (b : Batch) : Type 0 where
   pub few : length b.pictures ≤ 16
   pub opened : All (λ (x : BatchPicture). IsOpened x.piece x.opened) b.pictures
   pub sizes : All (λ (x : BatchPicture). x.opened.dims ≡ b.dims) b.pictures
-  pub older : IfSome b.older (λ f. f.dims ≡ b.dims)
-  pub newer : IfSome b.newer (λ f. f.dims ≡ b.dims)
-  pub waiting : IfSome b.waiting (λ f. f.dims ≡ b.dims)
+  pub frames_fit : HaveDims b.dims (record { older = b.older; newer = b.newer; waiting = b.waiting })
+  pub open frames_fit use *
   pub field : (p : ℕ) → (header_at (headers b) p).second ≡ true → (header_at (headers b) p).structure ≤ 2
   pub first : (header_at (headers b) 0).second ≡ true → IsSome b.waiting
   pub pairs : (p : ℕ) → (header_at (headers b) (suc p)).second ≡ true → ArePair (header_at (headers b) p) (header_at (headers b) (suc p))

@@ -1,5 +1,5 @@
 -- A batch that is filled: which frames are there before a picture, and which picture may be the next one.
-use Rattle.std.specs.Prelude.{◌≡◌, ℕ, suc, ◌≤◌, Bool, true, false, not, ◌&&◌, nat_eq, if◌then◌else◌, List, [], ◌∷◌, ◌++◌, length, slice_index_or, Option, None, Some, IsSome, IfSome, is_some}
+use Rattle.std.specs.Prelude.{◌≡◌, ℕ, suc, ◌≤◌, Bool, true, false, not, ◌&&◌, nat_eq, if◌then◌else◌, List, [], ◌∷◌, ◌++◌, length, slice_index_or, Option, None, Some, IsSome, is_some}
 use Rattle.m2v_plane.specs.declared.dims.Dims.{Dims}
 use Rattle.m2v_plane.specs.Samples.{Samples, blank}
 use Rattle.m2v_model.specs.States.{is_b}
@@ -13,6 +13,7 @@ use Rattle.m2v_dec_batch.specs.declared.picture.FramePlace.TheVariants.{Older, N
 use Rattle.m2v_dec_batch.specs.Jobs.{header_at, newer_before, older_before, first_field}
 use Rattle.m2v_dec_batch.specs.declared.picture.BatchPicture.{BatchPicture}
 use Rattle.m2v_dec_batch.specs.Batches.{Batch, headers, ArePair}
+pub use Rattle.m2v_dec_batch.specs.Batches.{HaveDims}
 use Rattle.m2v_dec_batch.specs.declared.at_hand.FramesThere.{FramesThere}
 
 -- the batch with one picture more
@@ -44,12 +45,6 @@ pub record AreThere (f : FramesAtHand) (b : Batch) : Type 0 where
   pub older : is_some f.older ≡ is_some b.older
   pub newer : is_some f.newer ≡ is_some b.newer
   pub waiting : is_some f.waiting ≡ is_some b.waiting
-
--- all of them have a size
-pub record HaveDims (d : Dims) (f : FramesAtHand) : Type 0 where
-  pub older : IfSome f.older (λ x. x.dims ≡ d)
-  pub newer : IfSome f.newer (λ x. x.dims ≡ d)
-  pub waiting : IfSome f.waiting (λ x. x.dims ≡ d)
 
 -- whether a frame is there: one of those before the batch, or that behind a picture
 unfoldable pub is_there : Batch → FramePlace → Bool

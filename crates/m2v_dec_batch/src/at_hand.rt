@@ -1,5 +1,6 @@
 //! Which of the frames that a picture may be predicted from are there.
-ghost use Rattle.std.specs.Prelude.{◌≡◌, ◌↔◌, true, if◌then◌else◌, IsTrue};
+ghost use Rattle.std.specs.Prelude.{◌≡◌, ◌↔◌, ◌&&◌, true, if◌then◌else◌, IsTrue};
+ghost use Rattle.m2v_model.specs.States.{is_b};
 ghost use Rattle.m2v_dec_batch.specs.Jobs.{ends_anchor as is_anchor_end};
 ghost use Rattle.m2v_dec_batch.specs.Batches.{reading_of as reading_by};
 ghost use Rattle.m2v_dec_batch.specs.Filled.{top_there, bottom_there, backward_there, HasFields};
@@ -53,21 +54,28 @@ pub(crate) fn reading_of(h: Header) -> Option<Reading>
     })
 }
 
+/// Whether the frame with a field of the forward reference is there; it may be the first field that a second one has
+/// before it.
+fn has_forward(r: &Reading, is_first: bool, at: FramesThere) -> bool
+    ensures value { result ≡ (if is_b r.now.kind then at.older else if r.now.second_field && is_first
+        then at.first else at.newer) }
+{
+    if r.kind == 3 {
+        at.older
+    } else if r.second_field && is_first {
+        at.first
+    } else {
+        at.newer
+    }
+}
+
 /// Whether the frame with the top field of the forward reference is there.
 fn has_top(reading: &Option<Reading>, at: FramesThere) -> bool
     ensures value { result ≡ top_there reading.now at }
 {
     match reading {
         None => false,
-        Some(r) => {
-            if r.kind == 3 {
-                at.older
-            } else if r.second_field && r.structure != 1 {
-                at.first
-            } else {
-                at.newer
-            }
-        }
+        Some(r) => has_forward(r, r.structure != 1, at),
     }
 }
 
@@ -77,15 +85,7 @@ fn has_bottom(reading: &Option<Reading>, at: FramesThere) -> bool
 {
     match reading {
         None => false,
-        Some(r) => {
-            if r.kind == 3 {
-                at.older
-            } else if r.second_field && r.structure == 1 {
-                at.first
-            } else {
-                at.newer
-            }
-        }
+        Some(r) => has_forward(r, r.structure == 1, at),
     }
 }
 

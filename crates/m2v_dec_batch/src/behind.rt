@@ -90,21 +90,6 @@ impl DecodeBook {
         self.begun_frame(alloc, p, done)
     }
 
-    /// The frame behind a picture, as one that may be there.
-    fn some_frame(
-        &self,
-        alloc: Global,
-        p: u32,
-        done: &Done<DecodeBook>,
-    ) -> Result<Option<Frame>, Memory>
-        requires done { done.now ≡ self.now }
-        requires picture { p < length (headers self.now) }
-        ensures value { IfOk result (λ f. f ≡ Some (frame_behind self.now (all_rows self.now) p)) }
-    {
-        let frame = self.whole_frame(alloc, p, done)?;
-        Ok(Some(frame))
-    }
-
     /// The frame that stands at a place, if there is one.
     #[tactic(auto, unfolding(crate::specs::Batches::frame_at, crate::specs::Below::ComesBefore))]
     fn frame_by(
@@ -121,7 +106,10 @@ impl DecodeBook {
             FramePlace::Older => copy_of(alloc, self.older()),
             FramePlace::Newer => copy_of(alloc, self.newer()),
             FramePlace::Waiting => copy_of(alloc, self.waiting()),
-            FramePlace::Behind(p) => self.some_frame(alloc, p, done),
+            FramePlace::Behind(p) => {
+                let frame = self.whole_frame(alloc, p, done)?;
+                Ok(Some(frame))
+            }
         }
     }
 

@@ -13,28 +13,15 @@ ghost use Rattle.m2v_dec_batch.specs.Below.{ComesBefore, MayBe};
 ghost use Rattle.m2v_dec_batch.specs.Values.{outcome_in, outcome_of, value_of, FitsPiece};
 ghost use Rattle.m2v_dec_batch.specs.Works.{HasLearned, needs_rebuilt, whole_at, frame_found, AreDecoded};
 
+use crate::at_hand::reading_of;
 use crate::book::DecodeBook;
 use crate::cache::DecodeCache;
-use crate::picture::{BatchPicture, FramePlace, Header, behind};
+use crate::picture::{BatchPicture, FramePlace, behind};
 use crate::pieces::DecodePiece;
 use crate::reads::first_field;
-use m2v_dec_rows::dec_picture::{Reading, backward_view, forward_view};
+use m2v_dec_rows::dec_picture::{backward_view, forward_view};
 use m2v_dec_rows::read_row;
 use m2v_plane::{FieldView, Frame, RowRoom, RowSamples};
-
-/// What tells the references of a picture: an I picture has none.
-fn reading_of(h: Header) -> Option<Reading>
-    ensures value { result ≡ reading_of h }
-{
-    if h.kind == 1 {
-        return None;
-    }
-    Some(Reading {
-        kind: h.kind,
-        second_field: h.second,
-        structure: h.structure,
-    })
-}
 
 /// Whether both hold.
 fn both(a: bool, b: bool) -> bool

@@ -1,11 +1,11 @@
 -- Pieces taken ahead: what stands after one more is taken or decoded, and where decoding stops.
 use Rattle.std.proofs.Common.{◌≡◌, ℕ, ◌+◌, ◌≤◌, true, List, [], ◌∷◌, ◌++◌, length, map, Option, Some, None, refl, sym, ap, subst, ◌∙◌, append_assoc, arith}
 use Rattle.std.proofs.lemmas.List.{append-nil, length-append, map-append}
-use Rattle.m2v_port.specs.Ends.{Change, change}
+use Rattle.m2v_port.specs.Ends.{Change}
 use Rattle.m2v_port.specs.Port.{Moves, Grows, GrowsByPrefix}
-use Rattle.m2v_port.proofs.Runs.{moves_on, grows_on, grows_by_all}
-use Rattle.m2v_plane.specs.Raw.{raw}
-use Rattle.m2v_model.specs.Pieces.{limit}
+use Rattle.m2v_port.proofs.Runs.{moves_on, grows_by_all}
+use Rattle.m2v_plane.specs.Samples.{Samples}
+use Rattle.m2v_model.specs.Pieces.{limit, most_input}
 use Rattle.m2v_dec_piece.specs.declared.answer.Piece.{Piece}
 use Rattle.m2v_dec_piece.specs.declared.answer.Fault.{Fault}
 use Rattle.m2v_dec_piece.specs.declared.answer.DecodeError.{DecodeError}
@@ -14,11 +14,10 @@ use Rattle.m2v_dec_piece.specs.Sound.{IsSoundPiece}
 use Rattle.m2v_dec_piece.specs.Cutting.{Cutting, left_of, start_of, IsReading, PieceStops}
 use Rattle.m2v_dec_piece.specs.Stepping.{Handed, Stopped, Keeps, Why}
 use Rattle.m2v_decode.specs.Decoding.{Decoding, Onward, Refuses, due_of, whole_of}
-use Rattle.m2v_decode.specs.Answers.{IsCut, IsFaulty, IsOver, OfText, OfTaken, Fails, due_before, shown_so_far}
-use Rattle.m2v_decode.specs.Progress.{raw_of, Cuts, HasPut, Reached, Progress}
-use Rattle.m2v_decode.proofs.Putting.{raw-append}
-use Rattle.m2v_decode.proofs.Going.{moved_some, ready_none, reached_more, gave, start_place, due_cut, reached_cut, reached_later, faulty_at, over_at}
-use Rattle.m2v_pardec.specs.Ahead.{AreTaken, Later, behind, ended, stopped, Knows, IsAhead, HandsOut, none, more, FailsBy}
+use Rattle.m2v_decode.specs.Answers.{IsCut, IsFaulty, IsOver, OfText, OfTaken, Fails}
+use Rattle.m2v_decode.specs.Progress.{raw_of, Cuts, HasPut, Reached, Progress, IsDone}
+use Rattle.m2v_decode.proofs.Going.{moved_some, written_on, reached_more, gave, start_place, due_cut, reached_cut, reached_later, faulty_at, over_at}
+use Rattle.m2v_pardec.specs.Ahead.{AreTaken, Later, behind, ended, stopped, Knows, Waits, IsAhead, HandsOut, none, more, FailsBy}
 
 -- ---- lists of pieces
 
@@ -41,12 +40,7 @@ pub ahead_more : (l0 l1 l2 h0 h1 : Option (List ℕ)) (c c' : Cutting) (ps : Lis
 ahead_more l0 l1 l2 h0 h1 c c' ps p d so handed begun keeps = record {
   bytes = so.bytes ++ handed.bytes;
   moved = moves_on so.moved handed.moved;
-  frames = so.frames;
-  grown = so.grown;
-  shown = so.shown;
-  none = so.none;
-  going = so.going;
-  sound = so.sound;
+  written = so.written;
   told = λ rest e.
       let mid = moved_some l1 l2 handed.bytes rest handed.moved e in
       let w = so.told (handed.bytes ++ rest) mid in
@@ -75,12 +69,7 @@ ahead_read : (l0 l1 l2 h0 h1 : Option (List ℕ)) (c : Cutting) (later : Later) 
 ahead_read l0 l1 l2 h0 h1 c later bytes ps d so moved knows = record {
   bytes = so.bytes ++ bytes;
   moved = moves_on so.moved moved;
-  frames = so.frames;
-  grown = so.grown;
-  shown = so.shown;
-  none = so.none;
-  going = so.going;
-  sound = so.sound;
+  written = so.written;
   told = λ rest e.
       let w = so.told (bytes ++ rest) (moved_some l1 l2 bytes rest moved e) in
       let long : length (so.bytes ++ bytes) ≡ length so.bytes + length bytes = length-append so.bytes bytes in
@@ -123,12 +112,7 @@ pub ahead_none : {left held : Change} {c : Cutting} {d : Decoding} → Progress 
 ahead_none {left} {held} {c} {d} so = record {
   bytes = so.bytes;
   moved = so.moved;
-  frames = so.frames;
-  grown = so.grown;
-  shown = so.shown;
-  none = so.none;
-  going = so.going;
-  sound = so.sound;
+  written = so.written;
   told = λ rest e. record {
     start = start_of c rest;
     next = start_of c rest;
@@ -140,22 +124,21 @@ ahead_none {left} {held} {c} {d} so = record {
   };
 }
 
+-- the first of the pieces that were taken is the next one
+next_reached : {later : Later} {taken : ℕ} {text rest : List ℕ} {p : Piece} {ps : List Piece} {frames : List Samples} {d : Decoding} → (w : Waits later taken text rest (p ∷ ps) frames d)
+    → Reached taken text p.place (whole_of p ∷ (map whole_of ps ++ w.others)) frames d
+next_reached {later} {taken} {text} {rest} {p} {ps} {frames} {d} w = subst (λ (x : ℕ). Reached taken text x (whole_of p ∷ (map whole_of ps ++ w.others)) frames d) (sym w.pieces.0) w.reached
+
 -- the next piece was decoded, and the frames due then written
 pub ahead_onward : (later : Later) (l0 l1 h0 h1 h2 : Option (List ℕ)) (p : Piece) (ps : List Piece) (d m n : Decoding) → IsAhead later l0 l1 h0 h1 (p ∷ ps) d → Onward d p.place (whole_of p) m → HasPut m n → Grows h1 (raw_of (due_of m)) h2
     → IsAhead later l0 l1 h0 h2 ps n
 ahead_onward later l0 l1 h0 h1 h2 p ps d m n so a put grown = record {
   bytes = so.bytes;
   moved = so.moved;
-  frames = so.frames ++ due_of m;
-  grown = subst (λ (b : List ℕ). Grows h0 b h2) (sym (raw-append so.frames (due_of m))) (grows_on so.grown grown);
-  shown = omega (arith, put.shown, a.shown, so.shown, length-append so.frames (due_of m));
-  none = ready_none n (put.ended ∙ a.going) put.none;
-  going = put.ended ∙ a.going;
-  sound = put.failed ∙ a.sound;
+  written = written_on so.written a put grown;
   told = λ rest e.
       let w = so.told rest e in
       let t = w.pieces in
-      let r = subst (λ (x : ℕ). Reached (length so.bytes) (so.bytes ++ rest) x (whole_of p ∷ (map whole_of ps ++ w.others)) so.frames d) (sym t.0) w.reached in
       let here : p.place + length (whole_of p) ≡ p.place + p.length = ap (λ (x : ℕ). p.place + x) (sym t.1) in
       let rises = taken_rises ps (p.place + p.length) w.next t.3 in
       let within = w.within (omega arith) in
@@ -164,11 +147,25 @@ ahead_onward later l0 l1 h0 h1 h2 p ps d m n so a put grown = record {
         next = w.next;
         others = w.others;
         reached = subst (λ (x : ℕ). Reached (length so.bytes) (so.bytes ++ rest) x (map whole_of ps ++ w.others) (so.frames ++ due_of m) n) here
-            (reached_more (length so.bytes) (length so.bytes) (so.bytes ++ rest) p.place (whole_of p) (map whole_of ps ++ w.others) so.frames d m n r so.none t.2 a put (omega (arith, here, rises, within)));
+            (reached_more (length so.bytes) (length so.bytes) (so.bytes ++ rest) p.place (whole_of p) (map whole_of ps ++ w.others) so.frames d m n (next_reached w) so.none t.2 a put (omega (arith, here, rises, within)));
         pieces = t.3;
         within = λ some. within;
         known = w.known;
       };
+}
+
+-- all that was taken was decoded, and no piece is left
+pub ahead_done : (left held : Change) (c : Cutting) (d : Decoding) → IsAhead (ended c) left.old left.new held.old held.new [] d → c.ended ≡ true → c.place ≤ most_input → IsDone left held c d
+ahead_done left held c d so over most = record {
+  bytes = so.bytes;
+  moved = so.moved;
+  written = so.written;
+  over = over;
+  most = most;
+  told = λ rest e.
+      let w = so.told rest e in
+      subst (λ (x : ℕ). Reached (length so.bytes) (so.bytes ++ rest) x [] so.frames d) (sym w.pieces ∙ w.known.0)
+      (subst (λ (l : List (List ℕ)). Reached (length so.bytes) (so.bytes ++ rest) w.start l so.frames d) w.known.1 w.reached);
 }
 
 -- ---- where decoding stops
@@ -184,37 +181,17 @@ abbrev plain : Type 0 → Option (List ℕ) → Option (List ℕ) → Change
 plain failed old new = record { old = old; new = new; Failed = failed; Unchanged = ⊥ }
 
 -- whether an endpoint failed makes no difference to what was written
-cut_as : {bytes text : List ℕ} (a b : Change) → a.old ≡ b.old → a.new ≡ b.new → IsCut bytes text a → IsCut bytes text b
-cut_as a b old new x = record {
-  events = x.events;
-  between = x.between;
-  others = x.others;
-  begun = x.begun;
-  within = x.within;
-  grown = subst (λ (h : Option (List ℕ)). GrowsByPrefix h (raw (shown_so_far x.others x.between x.events)) b.new) old (subst (λ (h : Option (List ℕ)). GrowsByPrefix a.old (raw (shown_so_far x.others x.between x.events)) h) new x.grown);
-}
+abbrev told_of : Change → Type 0 → Type 0 → Change
+told_of b failed unchanged = record { old = b.old; new = b.new; Failed = failed; Unchanged = unchanged }
 
-faulty_as : {text : List ℕ} {f : Fault} (a b : Change) → a.old ≡ b.old → a.new ≡ b.new → IsFaulty text a f → IsFaulty text b f
-faulty_as a b old new x = record {
-  fault = x.fault;
-  start = x.start;
-  events = x.events;
-  between = x.between;
-  others = x.others;
-  begun = x.begun;
-  here = x.here;
-  grown = subst (λ (h : Option (List ℕ)). Grows h (raw (due_before x.between x.events)) b.new) old (subst (λ (h : Option (List ℕ)). Grows a.old (raw (due_before x.between x.events)) h) new x.grown);
-}
+cut_as : {bytes text : List ℕ} {f u : Type 0} (b : Change) → IsCut bytes text (told_of b f u) → IsCut bytes text b
+cut_as b x = record { events = x.events; between = x.between; others = x.others; begun = x.begun; within = x.within; grown = x.grown }
 
-over_as : {text : List ℕ} {e : DecodeError} (a b : Change) → a.old ≡ b.old → a.new ≡ b.new → IsOver text a e → IsOver text b e
-over_as a b old new x = record {
-  events = x.events;
-  between = x.between;
-  others = x.others;
-  begun = x.begun;
-  over = x.over;
-  grown = subst (λ (h : Option (List ℕ)). Grows h (raw (due_before x.between x.events)) b.new) old (subst (λ (h : Option (List ℕ)). Grows a.old (raw (due_before x.between x.events)) h) new x.grown);
-}
+faulty_as : {text : List ℕ} {fault : Fault} {f u : Type 0} (b : Change) → IsFaulty text (told_of b f u) fault → IsFaulty text b fault
+faulty_as b x = record { fault = x.fault; start = x.start; events = x.events; between = x.between; others = x.others; begun = x.begun; here = x.here; grown = x.grown }
+
+over_as : {text : List ℕ} {e : DecodeError} {f u : Type 0} (b : Change) → IsOver text (told_of b f u) e → IsOver text b e
+over_as b x = record { events = x.events; between = x.between; others = x.others; begun = x.begun; over = x.over; grown = x.grown }
 
 -- the frames that were written are those of whole pieces that were taken
 pub ahead_cut : (failed : Type 0) (later : Later) (l0 l1 h0 h1 : Option (List ℕ)) (ps : List Piece) (d : Decoding) → IsAhead later l0 l1 h0 h1 ps d → OfTaken (plain ⊥ l0 l1) (λ bytes text. IsCut bytes text (plain failed h0 h1))
@@ -223,7 +200,7 @@ ahead_cut failed later l0 l1 h0 h1 ps d so = record {
   moved = so.moved;
   told = λ rest e.
       let w = so.told rest e in
-      cut_as (change itself no_faults h0 h1) (plain failed h0 h1) refl refl
+      cut_as (plain failed h0 h1)
       (reached_cut itself no_faults itself no_faults (length so.bytes) so.bytes (so.bytes ++ rest) w.start _ so.frames d h0 h1 w.reached (omega arith) (grows_by_all so.grown));
 }
 
@@ -240,9 +217,8 @@ ahead_refused failed later l0 l1 h0 h1 p ps d (errors.Stream f) so sound why = r
   told = λ rest e.
       let w = so.told rest e in
       let t = w.pieces in
-      let r = subst (λ (x : ℕ). Reached (length so.bytes) (so.bytes ++ rest) x (whole_of p ∷ (map whole_of ps ++ w.others)) so.frames d) (sym t.0) w.reached in
-      faulty_as (change itself no_faults h0 h1) (plain failed h0 h1) refl refl
-      (faulty_at itself no_faults itself no_faults (length so.bytes) (so.bytes ++ rest) p.place (whole_of p ∷ (map whole_of ps ++ w.others)) so.frames d h0 h1 f r so.grown (t.2, why) (omega (arith, sound.end)));
+      faulty_as (plain failed h0 h1)
+      (faulty_at itself no_faults itself no_faults (length so.bytes) (so.bytes ++ rest) p.place (whole_of p ∷ (map whole_of ps ++ w.others)) so.frames d h0 h1 f (next_reached w) so.grown (t.2, why) (omega (arith, sound.end)));
 }
 
 -- memory ran out
@@ -258,11 +234,10 @@ due_text failed later l0 l1 h0 h1 h2 p ps d m so a cut = record {
   told = λ rest e.
       let w = so.told rest e in
       let t = w.pieces in
-      let r = subst (λ (x : ℕ). Reached (length so.bytes) (so.bytes ++ rest) x (whole_of p ∷ (map whole_of ps ++ w.others)) so.frames d) (sym t.0) w.reached in
       let rises = taken_rises ps (p.place + p.length) w.next t.3 in
       let within = w.within (omega arith) in
-      cut_as (change itself no_faults h0 h2) (plain failed h0 h2) refl refl
-      (due_cut itself no_faults itself no_faults (length so.bytes) so.bytes (so.bytes ++ rest) p.place (whole_of p) (map whole_of ps ++ w.others) so.frames d m h0 h1 h2 r so.none t.2 a (omega (arith, t.1, rises, within)) so.grown cut);
+      cut_as (plain failed h0 h2)
+      (due_cut itself no_faults itself no_faults (length so.bytes) so.bytes (so.bytes ++ rest) p.place (whole_of p) (map whole_of ps ++ w.others) so.frames d m h0 h1 h2 (next_reached w) so.none t.2 a (omega (arith, t.1, rises, within)) so.grown cut);
 }
 
 -- output failed behind a piece
@@ -286,20 +261,20 @@ taken_as P Q l f x = record { bytes = x.bytes; moved = x.moved; told = λ rest e
 -- whether output failed may be said by what follows from it
 pub fails_weaker : (failed failed' : Type 0) (l0 l1 h0 h1 : Option (List ℕ)) (e : DecodeError) → (failed → failed') → FailsBy failed l0 l1 h0 h1 e → FailsBy failed' l0 l1 h0 h1 e
 fails_weaker failed failed' l0 l1 h0 h1 errors.Read weaker x = absurd x.0
-fails_weaker failed failed' l0 l1 h0 h1 errors.Write weaker x = (weaker x.0, taken_as _ _ (plain ⊥ l0 l1) (λ b t c. cut_as (plain failed h0 h1) (plain failed' h0 h1) refl refl c) x.1)
-fails_weaker failed failed' l0 l1 h0 h1 (errors.Stream f) weaker x = text_as _ _ (plain ⊥ l0 l1) (λ t c. faulty_as (plain failed h0 h1) (plain failed' h0 h1) refl refl c) x
-fails_weaker failed failed' l0 l1 h0 h1 errors.TooLong weaker x = text_as _ _ (plain ⊥ l0 l1) (λ t c. over_as (plain failed h0 h1) (plain failed' h0 h1) refl refl c) x
-fails_weaker failed failed' l0 l1 h0 h1 errors.PictureTooLarge weaker x = text_as _ _ (plain ⊥ l0 l1) (λ t c. over_as (plain failed h0 h1) (plain failed' h0 h1) refl refl c) x
-fails_weaker failed failed' l0 l1 h0 h1 errors.Memory weaker x = taken_as _ _ (plain ⊥ l0 l1) (λ b t c. cut_as (plain failed h0 h1) (plain failed' h0 h1) refl refl c) x
+fails_weaker failed failed' l0 l1 h0 h1 errors.Write weaker x = (weaker x.0, taken_as _ _ (plain ⊥ l0 l1) (λ b t c. cut_as (plain failed' h0 h1) c) x.1)
+fails_weaker failed failed' l0 l1 h0 h1 (errors.Stream f) weaker x = text_as _ _ (plain ⊥ l0 l1) (λ t c. faulty_as (plain failed' h0 h1) c) x
+fails_weaker failed failed' l0 l1 h0 h1 errors.TooLong weaker x = text_as _ _ (plain ⊥ l0 l1) (λ t c. over_as (plain failed' h0 h1) c) x
+fails_weaker failed failed' l0 l1 h0 h1 errors.PictureTooLarge weaker x = text_as _ _ (plain ⊥ l0 l1) (λ t c. over_as (plain failed' h0 h1) c) x
+fails_weaker failed failed' l0 l1 h0 h1 errors.Memory weaker x = taken_as _ _ (plain ⊥ l0 l1) (λ b t c. cut_as (plain failed' h0 h1) c) x
 
 -- why decoding stopped is the answer
 pub fails_as : (failed : Type 0) (left held : Change) (e : DecodeError) → (failed → held.Failed) → FailsBy failed left.old left.new held.old held.new e → Fails left held e
 fails_as failed left held errors.Read rose x = absurd x.0
-fails_as failed left held errors.Write rose x = (rose x.0, taken_as _ _ left (λ b t c. cut_as (plain failed held.old held.new) held refl refl c) x.1)
-fails_as failed left held (errors.Stream f) rose x = text_as _ _ left (λ t c. faulty_as (plain failed held.old held.new) held refl refl c) x
-fails_as failed left held errors.TooLong rose x = text_as _ _ left (λ t c. over_as (plain failed held.old held.new) held refl refl c) x
-fails_as failed left held errors.PictureTooLarge rose x = text_as _ _ left (λ t c. over_as (plain failed held.old held.new) held refl refl c) x
-fails_as failed left held errors.Memory rose x = taken_as _ _ left (λ b t c. cut_as (plain failed held.old held.new) held refl refl c) x
+fails_as failed left held errors.Write rose x = (rose x.0, taken_as _ _ left (λ b t c. cut_as held c) x.1)
+fails_as failed left held (errors.Stream f) rose x = text_as _ _ left (λ t c. faulty_as held c) x
+fails_as failed left held errors.TooLong rose x = text_as _ _ left (λ t c. over_as held c) x
+fails_as failed left held errors.PictureTooLarge rose x = text_as _ _ left (λ t c. over_as held c) x
+fails_as failed left held errors.Memory rose x = taken_as _ _ left (λ b t c. cut_as held c) x
 
 -- all that was taken was decoded, and the cutter gives no piece, by an error
 over_text : (l0 l1 h0 h1 : Option (List ℕ)) (d : Decoding) (e : DecodeError) → IsAhead (stopped e) l0 l1 h0 h1 [] d → ((x : ℕ) (l : List (List ℕ)) → Why x l e → PieceStops x l e) → OfText (plain ⊥ l0 l1) (λ text. IsOver text (plain ⊥ h0 h1) e)
@@ -308,15 +283,15 @@ over_text l0 l1 h0 h1 d e so is = record {
   moved = so.moved;
   told = λ rest q.
       let w = so.told rest q in
-      over_as (change itself no_faults h0 h1) (plain ⊥ h0 h1) refl refl
+      over_as (plain ⊥ h0 h1)
       (over_at itself no_faults itself no_faults (length so.bytes) (so.bytes ++ rest) w.start w.others so.frames d h0 h1 e w.reached so.grown
       (is w.start w.others (subst (λ (x : ℕ). Why x w.others e) w.pieces w.known)));
 }
 
 pub ahead_unread : (left held : Change) (d : Decoding) (e : DecodeError) → (e ≡ errors.Read → left.Failed) → IsReading e → IsAhead (stopped e) left.old left.new held.old held.new [] d → Fails left held e
-ahead_unread left held d errors.Read rose kind so = (rose refl, taken_as _ _ left (λ b t c. cut_as (plain ⊥ held.old held.new) held refl refl c) (ahead_cut ⊥ (stopped errors.Read) _ _ _ _ [] d so))
+ahead_unread left held d errors.Read rose kind so = (rose refl, taken_as _ _ left (λ b t c. cut_as held c) (ahead_cut ⊥ (stopped errors.Read) _ _ _ _ [] d so))
 ahead_unread left held d errors.Write rose kind so = absurd kind
 ahead_unread left held d (errors.Stream f) rose kind so = absurd kind
-ahead_unread left held d errors.TooLong rose kind so = text_as _ _ left (λ t c. over_as (plain ⊥ held.old held.new) held refl refl c) (over_text _ _ _ _ d errors.TooLong so (λ x l w. w))
-ahead_unread left held d errors.PictureTooLarge rose kind so = text_as _ _ left (λ t c. over_as (plain ⊥ held.old held.new) held refl refl c) (over_text _ _ _ _ d errors.PictureTooLarge so (λ x l w. w))
-ahead_unread left held d errors.Memory rose kind so = taken_as _ _ left (λ b t c. cut_as (plain ⊥ held.old held.new) held refl refl c) (ahead_cut ⊥ (stopped errors.Memory) _ _ _ _ [] d so)
+ahead_unread left held d errors.TooLong rose kind so = text_as _ _ left (λ t c. over_as held c) (over_text _ _ _ _ d errors.TooLong so (λ x l w. w))
+ahead_unread left held d errors.PictureTooLarge rose kind so = text_as _ _ left (λ t c. over_as held c) (over_text _ _ _ _ d errors.PictureTooLarge so (λ x l w. w))
+ahead_unread left held d errors.Memory rose kind so = taken_as _ _ left (λ b t c. cut_as held c) (ahead_cut ⊥ (stopped errors.Memory) _ _ _ _ [] d so)

@@ -7,7 +7,7 @@ use Rattle.m2v_model.specs.Pieces.{most_input}
 use Rattle.m2v_model.specs.declared.state.State.{State}
 use Rattle.m2v_dec_piece.specs.declared.answer.Piece.{Piece}
 use Rattle.m2v_dec_batch.specs.m2v_dec_rows.declared.opened.Opened.{Opened}
-use Rattle.m2v_dec_batch.specs.m2v_dec_rows.Headers.{IsBetween, TellsHeaders, Front, IsOpenedBy}
+use Rattle.m2v_dec_batch.specs.m2v_dec_rows.Headers.{IsBetween, TellsHeaders, Front}
 use Rattle.m2v_dec_batch.specs.declared.picture.BatchPicture.{BatchPicture}
 use Rattle.m2v_dec_batch.specs.Batches.{Batch, IsBatch}
 use Rattle.m2v_dec_batch.specs.Filled.{batch_of}
@@ -26,24 +26,7 @@ front_same b f = record { parts = f.parts; fault = f.fault; read = f.read }
 
 -- what the headers of a picture say is said so too
 told_headers : (st : State) (b : Bool) (p : Piece) (o : Opened) (after : State) → TellsHeaders st p (Ok (Some o)) after → TellsHeaders (record st { headers_only = b }) p (Ok (Some o)) after
-told_headers st b p o after h =
-    let f : Front st p = h.0 in
-    let by : IsOpenedBy p f o = h.1 in (
-      front_same b f,
-      record {
-        sequence = by.sequence;
-        picture = by.picture;
-        in_force = by.in_force;
-        is_open = by.is_open;
-        note = by.note;
-        setup = by.setup;
-        rows = by.rows;
-        low_delay = by.low_delay;
-        slices = by.slices;
-        fault = by.fault;
-      },
-      h.2,
-    )
+told_headers st b p o after h = (front_same b h.0, h.1, h.2)
 
 -- the same of a picture
 pub told_same : (st : State) (b : Bool) (x : BatchPicture) (after : State) → IsTold st x after → IsTold (record st { headers_only = b }) x after

@@ -1,6 +1,6 @@
 -- Decoding under way, with pieces that were taken ahead of what was decoded.
 use Rattle.std.specs.Prelude.{◌≡◌, ℕ, ◌+◌, ◌<◌, ◌≤◌, false, true, List, [], ◌∷◌, ◌++◌, length, map, Option, Some, None}
-use Rattle.m2v_port.specs.Port.{Moves, Grows}
+use Rattle.m2v_port.specs.Port.{Moves}
 use Rattle.m2v_plane.specs.Samples.{Samples}
 use Rattle.m2v_model.specs.Pieces.{limit}
 use Rattle.m2v_dec_piece.specs.declared.answer.Piece.{Piece}
@@ -10,7 +10,7 @@ use Rattle.m2v_dec_piece.specs.Cutting.{Cutting, start_of, left_of, IsReading}
 use Rattle.m2v_dec_piece.specs.Stepping.{Why, Handed, Stopped, Keeps}
 use Rattle.m2v_decode.specs.Decoding.{Decoding, whole_of}
 use Rattle.m2v_decode.specs.Answers.{Fails}
-use Rattle.m2v_decode.specs.Progress.{raw_of, Reached}
+use Rattle.m2v_decode.specs.Progress.{Reached, Written}
 use Rattle.m2v_pardec.specs.declared.taking.Stop.{Stop}
 use Rattle.m2v_pardec.specs.declared.taking.Stop.TheVariants.{More, End, Error}
 
@@ -51,12 +51,8 @@ pub record Waits (later : Later) (taken : ℕ) (text rest : List ℕ) (ps : List
 pub record IsAhead (later : Later) (left left_then held held_then : Option (List ℕ)) (ps : List Piece) (d : Decoding) : Type 0 where
   pub bytes : List ℕ
   pub moved : Moves left bytes left_then
-  pub frames : List Samples
-  pub grown : Grows held (raw_of frames) held_then
-  pub shown : d.shown ≡ length frames
-  pub none : d.ready ≡ []
-  pub going : d.ended ≡ false
-  pub sound : d.failed ≡ false
+  pub written : Written held held_then d
+  pub open written use *
   pub told : (rest : List ℕ) → left_then ≡ Some rest → Waits later (length bytes) (bytes ++ rest) rest ps frames d
 
 -- ---- taking pieces

@@ -1,7 +1,6 @@
 use Rattle.std.proofs.Common.{[], ◌∷◌}
 use Rattle.std.proofs.lemmas.Result.{err_from_is_err_and, IfErr-weaker}
 use Rattle.m2v_dec_piece.proofs.Steps.{both_ok}
-use Rattle.m2v_decode.proofs.Going.{onward}
 use Rattle.m2v_port.specs.Ends.{change}
 use Rattle.m2v_port.specs.Port.{Rose}
 use Rattle.m2v_decode.specs.Decoding.{due_of}
@@ -18,11 +17,11 @@ returns-in_err-piece-clause-err g c =
 pub returns-clause-ok : goal.returns-clause-ok
 returns-clause-ok g c =
     both_ok c.put_due.result c.put_due.ensures.put c.put_due.ensures.grown
-    (λ put grown. put_one c.args.decoder.now c.piece.new.self c.put_due.new.decoder c.args.piece.now (g.K.Sink.held c.args.output.now) (g.K.Sink.held c.put_due.new.output) (onward c.in_ok-piece.ensures.ok) put grown)
+    (λ put grown. put_one c.args.decoder.now c.piece.new.self c.put_due.new.decoder c.args.piece.now (g.K.Sink.held c.args.output.now) (g.K.Sink.held c.put_due.new.output) c.in_ok-piece.ensures.ok.onward put grown)
 
 pub returns-clause-err : goal.returns-clause-err
 returns-clause-err g c = IfErr-weaker c.put_due.result
     (Cuts (raw_of (due_of c.piece.new.self)) (change g.K.Sink.held g.K.Sink.faults c.args.output.now c.put_due.new.output))
     (StopsBy (Rose (g.K.Sink.faults c.args.output.now) (g.K.Sink.faults c.put_due.new.output)) (c.args.piece.now ∷ []) c.args.decoder.now (g.K.Sink.held c.args.output.now) (g.K.Sink.held c.put_due.new.output))
-    (λ e cut. unwritten_one _ c.args.decoder.now c.piece.new.self c.args.piece.now (change g.K.Sink.held g.K.Sink.faults c.args.output.now c.put_due.new.output) e (λ r. r) (onward c.in_ok-piece.ensures.ok) cut)
+    (λ e cut. unwritten_one _ c.args.decoder.now c.piece.new.self c.args.piece.now (change g.K.Sink.held g.K.Sink.faults c.args.output.now c.put_due.new.output) e (λ r. r) c.in_ok-piece.ensures.ok.onward cut)
     c.put_due.ensures.err

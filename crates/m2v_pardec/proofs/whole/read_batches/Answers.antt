@@ -5,7 +5,7 @@ use Rattle.m2v_port.specs.Port.{Rose}
 use Rattle.m2v_port.proofs.Runs.{rose_since}
 use Rattle.m2v_decode.proofs.Going.{progress_none}
 use Rattle.m2v_pardec.specs.Ahead.{behind, IsAhead}
-use Rattle.m2v_pardec.proofs.AheadLaws.{ahead_none, fails_as, ahead_unread}
+use Rattle.m2v_pardec.proofs.AheadLaws.{ahead_none, ahead_done, fails_as, ahead_unread}
 use Rattle.m2v_pardec.proofs.whole.read_batches.Goals as goal
 
 pub returns-in_err-stop-clause-err : goal.returns-in_err-stop-clause-err
@@ -34,6 +34,13 @@ loop-stop-init g c =
       output = c.put_first.ensures.output;
       input = c.put_first.ensures.input;
     }
+
+pub returns-in-End-clause-ok : goal.returns-in-End-clause-ok
+returns-in-End-clause-ok g c =
+    let inv = c.loop-stop.invariant in
+    let so = rw c.in-End.is at inv.ahead in
+    let stands = rw c.in-End.is at inv.stands in
+    ahead_done (change g.S.Source.left g.S.Source.faults c.args.input.now c.loop-stop.input) (change g.K.Sink.held g.K.Sink.faults c.args.output.now c.loop-stop.output) c.loop-stop.stream.cutter c.loop-stop.stream.decoder so stands.1.0 stands.1.1
 
 pub returns-in-Error-clause-err : goal.returns-in-Error-clause-err
 returns-in-Error-clause-err g c =
