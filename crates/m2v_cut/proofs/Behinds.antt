@@ -111,13 +111,9 @@ module _ {S K : Type 0} (left : S → Option (List ℕ)) (input_faults : S → �
 
   pub second_failed : (i0 : S) (o0 o1 : K) (before : List (List ℕ)) (most groups : ℕ) (c : Cutting) (e : CutError) → (c.begun ≡ true) ⊎ (c.ended ≡ true) → (groups + all_groups before ≤ most) × Cuts (all_bytes before) (output o0 o1) e
       → BehindFails before most groups (input i0 i0) (output o0 o1) c e
-  second_failed i0 o0 o1 before most groups c errors.Read at cut = absurd cut.1
   second_failed i0 o0 o1 before most groups c errors.Write at cut = (cut.1.0, second_cut i0 o0 o1 before most groups c at cut.0 cut.1.1)
-  second_failed i0 o0 o1 before most groups c (errors.NoGroup have need) at cut = absurd cut.1
-  second_failed i0 o0 o1 before most groups c (errors.NotCuttable place) at cut = absurd cut.1
-  second_failed i0 o0 o1 before most groups c errors.TooLong at cut = absurd cut.1
-  second_failed i0 o0 o1 before most groups c errors.PictureTooLarge at cut = absurd cut.1
   second_failed i0 o0 o1 before most groups c errors.Memory at cut = second_cut i0 o0 o1 before most groups c at cut.0 cut.1
+  second_failed i0 o0 o1 before most groups c _ at cut = absurd cut.1
 
   rest_cut : (i0 i1 : S) (o0 o1 o2 : K) (before mids : List (List ℕ)) (most : ℕ) (old mid : Copied) (c : Cutting) → Begun before old mid (output o0 o1) → mid.groups + all_groups mids ≤ most → ReadOn (left i0) (left i1) c mids → GrowsByPrefix (held o1) (all_bytes mids) (held o2)
       → BehindCut before most old.groups (input i0 i1) (output o0 o2) c

@@ -1,7 +1,7 @@
 -- Whether a group stands alone, by what is looked at of two pieces.
 use Rattle.std.proofs.Common.{◌≡◌, ◌⊎◌, ℕ, zero, suc, ◌+◌, ◌-◌, ◌<◌, ◌≤◌, Bool, true, false, List, [], ◌∷◌, ◌++◌, length, drop, Option, Some, None, inl, inr, refl, sym, ap, subst, ◌∙◌, append_assoc, arith}
 use Rattle.std.specs.Prelude.{nat_eq, nat_le, not, is_some, ◌&&◌, ◌||◌, if◌then◌else◌}
-use Rattle.std.proofs.lemmas.Bool.{cases_Bool, eqb-true}
+use Rattle.std.proofs.lemmas.Bool.{cases_Bool, eqb-true, or_parts}
 use Rattle.std.proofs.lemmas.List.{append-nil}
 use Rattle.m2v_model.specs.Units.{Units, cut}
 use Rattle.m2v_model.proofs.ShiftLaws.{BeginsPiece}
@@ -33,10 +33,6 @@ pub record Opened (n : ℕ) (vs : Units) (s : Shape vs) : Type 0 where
   pub whole : vs ≡ before_group n vs ++ from_group n vs
   pub before : has_picture (before_group n vs) ≡ false
 
-or_false : (a b : Bool) → (a || b) ≡ false → (a ≡ false) × (b ≡ false)
-or_false true b e = absurd cc
-or_false false b e = (refl, e)
-
 pub opened : (n : ℕ) (vs : Units) (s : Shape vs) → n < group_headers vs → Opened n vs s
 unfolding has_picture
 opened n vs s here =
@@ -56,7 +52,7 @@ opened n vs s here =
           heads = heads;
           is = is ∙ ap (λ (l : Units). head ∷ l) more;
           group = group;
-          none = (or_false _ _ none).1;
+          none = (or_parts _ _ none).1;
           whole = whole;
           before = before;
         }
@@ -141,6 +137,16 @@ pub record At (from n : ℕ) (us : Units) (first : List (List ℕ)) (w : List �
   pub few : all_groups first ≤ from
   pub number : n ≡ from - all_groups first
   pub here : n < group_headers split.vs
+
+-- what stands behind the group's header in the piece
+pub behind_header : (from n : ℕ) (us : Units) (first : List (List ℕ)) (w : List ℕ) (later : List (List ℕ)) (a : At from n us first w later)
+    → drop 1 (from_group n (cut 0 w).1) ≡ (opened n (a.split).vs (a.split).shape a.here).heads ++ (((a.split).shape).tail ++ (a.split).ends)
+behind_header from n us first w later a =
+    let one : Split w later a.back a.rest = a.split in
+    let s : Shape one.vs = one.shape in
+    let o : Opened n one.vs s = opened n one.vs s a.here in
+    let behind : from_group n (cut 0 w).1 ≡ from_group n one.vs ++ one.ends = ap (λ (x : List ℕ × Units). from_group n x.1) one.units ∙ (holds n one.vs one.ends a.here).behind in
+    ap (drop 1) behind ∙ ap (λ (l : Units). drop 1 (l ++ one.ends)) o.is ∙ append_assoc o.heads s.tail one.ends
 
 pub at_group : (from n : ℕ) (us : Units) (first : List (List ℕ)) (w : List ℕ) (later : List (List ℕ)) → Splits (first ++ w ∷ later) us → all_groups first ≤ from → n ≡ from - all_groups first → n < groups_of w → At from n us first w later
 at_group from n us first w later s few number here =

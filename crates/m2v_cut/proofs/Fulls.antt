@@ -1,7 +1,8 @@
 -- Pieces that each have a picture, and what they leave of a search.
 use Rattle.std.proofs.Common.{◌≡◌, ℕ, zero, suc, ◌+◌, ◌-◌, ◌<◌, ◌≤◌, Bool, true, false, List, [], ◌∷◌, ◌++◌, length, take, inl, inr, refl, sym, ap, subst, ◌∙◌, append_assoc, arith}
 use Rattle.std.specs.Prelude.{nat_eq, not, ◌&&◌, ◌||◌, if◌then◌else◌}
-use Rattle.std.proofs.lemmas.Bool.{cases_Bool, eqb-true}
+use Rattle.std.proofs.lemmas.Bool.{cases_Bool, eqb-true, or_parts}
+use Rattle.std.proofs.Math.Bool.{or_assoc, or-false, or-true}
 use Rattle.std.proofs.lemmas.List.{append-nil, length-append, take_at}
 use Rattle.m2v_model.specs.Units.{Units, cut, joined}
 use Rattle.m2v_model.specs.Streams.{value_of}
@@ -90,27 +91,15 @@ before_split (p ∷ r ∷ first) q qs us s =
 
 -- ---- pictures and headers among units
 
-or_false : (a b : Bool) → (a || b) ≡ false → (a ≡ false) × (b ≡ false)
-or_false true b e = absurd cc
-or_false false b e = (refl, e)
-
 pub picture-append : (us vs : Units) → has_picture (us ++ vs) ≡ (has_picture us || has_picture vs)
 unfolding has_picture
 picture-append [] vs = refl
-picture-append (u ∷ us) vs = ap (λ (b : Bool). is_picture u || b) (picture-append us vs) ∙ by_case (is_picture u) (has_picture us) (has_picture vs)
-  where
-    by_case : (a b c : Bool) → (a || (b || c)) ≡ ((a || b) || c)
-    by_case true b c = refl
-    by_case false b c = refl
+picture-append (u ∷ us) vs = ap (λ (b : Bool). is_picture u || b) (picture-append us vs) ∙ sym (or_assoc (is_picture u) (has_picture us) (has_picture vs))
 
 pub sequence-append : (us vs : Units) → has_sequence (us ++ vs) ≡ (has_sequence us || has_sequence vs)
 unfolding has_sequence
 sequence-append [] vs = refl
-sequence-append (u ∷ us) vs = ap (λ (b : Bool). is_sequence u || b) (sequence-append us vs) ∙ by_case (is_sequence u) (has_sequence us) (has_sequence vs)
-  where
-    by_case : (a b c : Bool) → (a || (b || c)) ≡ ((a || b) || c)
-    by_case true b c = refl
-    by_case false b c = refl
+sequence-append (u ∷ us) vs = ap (λ (b : Bool). is_sequence u || b) (sequence-append us vs) ∙ sym (or_assoc (is_sequence u) (has_sequence us) (has_sequence vs))
 
 pub headers-append : (us vs : Units) → group_headers (us ++ vs) ≡ group_headers us + group_headers vs
 unfolding group_headers
@@ -133,7 +122,7 @@ pub none_begin : (us : Units) → has_begin us ≡ false → (has_picture us ≡
 unfolding has_begin has_picture has_sequence group_headers
 none_begin [] off = (refl, (refl, refl))
 none_begin (u ∷ us) off =
-    let a = or_false (begins_piece (value_of u)) (has_begin us) off in
+    let a = or_parts (begins_piece (value_of u)) (has_begin us) off in
     let w = begins_which (value_of u) a.0 in
     let r = none_begin us a.1 in
     rw (w.0, w.1.0, w.1.1) (r.0, (r.1.0, none r.1.1))
@@ -147,7 +136,7 @@ up_none : (us ys : Units) → has_begin us ≡ false → up_to_piece (us ++ ys) 
 unfolding has_begin up_to_piece
 up_none [] ys off = refl
 up_none (u ∷ us) ys off =
-    let a = or_false (begins_piece (value_of u)) (has_begin us) off in
+    let a = or_parts (begins_piece (value_of u)) (has_begin us) off in
     rw a.0 (ap (λ (l : Units). u ∷ l) (up_none us ys a.1))
 
 -- units before a picture stay
@@ -155,13 +144,9 @@ up_before : (us ys : Units) → has_picture ys ≡ true → up_to_piece (us ++ y
 unfolding has_picture up_to_piece
 up_before [] ys some = refl
 up_before (u ∷ us) ys some =
-    let e : has_picture (us ++ ys) ≡ true = picture-append us ys ∙ ap (λ (b : Bool). has_picture us || b) some ∙ or_true (has_picture us) in
-    rw (e, or_true (is_picture u)) (off (begins_piece (value_of u)) (u ∷ up_to_piece (us ++ ys)) ∙ ap (λ (l : Units). u ∷ l) (up_before us ys some))
+    let e : has_picture (us ++ ys) ≡ true = picture-append us ys ∙ ap (λ (b : Bool). has_picture us || b) some ∙ or-true (has_picture us) in
+    rw (e, or-true (is_picture u)) (off (begins_piece (value_of u)) (u ∷ up_to_piece (us ++ ys)) ∙ ap (λ (l : Units). u ∷ l) (up_before us ys some))
   where
-    or_true : (b : Bool) → (b || true) ≡ true
-    or_true true = refl
-    or_true false = refl
-
     off : (b : Bool) (x : Units) → (if b && not true then [] else x) ≡ x
     off true x = refl
     off false x = refl
@@ -248,16 +233,12 @@ pub last_later : (us ys : Units) → has_sequence ys ≡ false → has_sequence 
 unfolding has_sequence from_last_sequence
 last_later [] ys off on = absurd cc
 last_later (u ∷ us) ys off on =
-    let e : has_sequence (us ++ ys) ≡ has_sequence us = sequence-append us ys ∙ ap (λ (b : Bool). has_sequence us || b) off ∙ or_none (has_sequence us) in
+    let e : has_sequence (us ++ ys) ≡ has_sequence us = sequence-append us ys ∙ ap (λ (b : Bool). has_sequence us || b) off ∙ or-false (has_sequence us) in
     elim (cases_Bool (is_sequence u && not (has_sequence us))) [
       | inl here ↦ rw (e, here) refl
       | inr there ↦ rw (e, there) (last_later us ys off (later (is_sequence u) (has_sequence us) there on))
     ]
   where
-    or_none : (b : Bool) → (b || false) ≡ b
-    or_none true = refl
-    or_none false = refl
-
     later : (a b : Bool) → (a && not b) ≡ false → (a || b) ≡ true → b ≡ true
     later true true x y = refl
     later true false x y = absurd cc
@@ -267,13 +248,9 @@ pub last_behind_all : (us ys : Units) → has_sequence ys ≡ true → from_last
 unfolding has_sequence from_last_sequence
 last_behind_all [] ys on = refl
 last_behind_all (u ∷ us) ys on =
-    let e : has_sequence (us ++ ys) ≡ true = sequence-append us ys ∙ ap (λ (b : Bool). has_sequence us || b) on ∙ or_true (has_sequence us) in
+    let e : has_sequence (us ++ ys) ≡ true = sequence-append us ys ∙ ap (λ (b : Bool). has_sequence us || b) on ∙ or-true (has_sequence us) in
     rw e (off (is_sequence u) (u ∷ (us ++ ys)) (from_last_sequence (us ++ ys))) ∙ last_behind_all us ys on
   where
-    or_true : (b : Bool) → (b || true) ≡ true
-    or_true true = refl
-    or_true false = refl
-
     off : (a : Bool) (x y : Units) → (if a && false then x else y) ≡ y
     off true x y = refl
     off false x y = refl

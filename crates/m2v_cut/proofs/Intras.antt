@@ -1,7 +1,7 @@
 -- A group's first frame, by the pieces that are looked at.
 use Rattle.std.proofs.Common.{◌≡◌, ◌⊎◌, ℕ, zero, suc, ◌+◌, ◌<◌, ◌≤◌, Bool, true, false, List, [], ◌∷◌, ◌++◌, length, Option, Some, None, inl, inr, refl, sym, ap, subst, ◌∙◌, append_assoc, arith}
 use Rattle.std.specs.Prelude.{nat_eq, nat_le, not, ◌&&◌, ◌||◌, if◌then◌else◌}
-use Rattle.std.proofs.lemmas.Bool.{cases_Bool, eqb-true}
+use Rattle.std.proofs.lemmas.Bool.{cases_Bool, eqb-true, or_parts}
 use Rattle.std.proofs.lemmas.List.{append-nil}
 use Rattle.m2v_model.specs.Units.{Units}
 use Rattle.m2v_model.specs.Streams.{value_of}
@@ -117,10 +117,6 @@ intra_none (u ∷ us) e = elim (cases_Bool (is_group u)) [
 no_group : (u : List ℕ) → is_picture u ≡ true → is_group u ≡ false
 no_group u on = let e = eqb-true (value_of u) 0x00 on in rw e refl
 
-or_false : (a b : Bool) → (a || b) ≡ false → (a ≡ false) × (b ≡ false)
-or_false true b e = absurd cc
-or_false false b e = (refl, e)
-
 -- behind headers without a group header a picture, and then others
 pub intra_some : (heads : Units) (u : List ℕ) (us : Units) → has_picture heads ≡ false → group_headers heads ≡ 0 → is_picture u ≡ true
     → begins_intra (coded_pictures (before_group 0 (heads ++ u ∷ us)))
@@ -129,7 +125,7 @@ unfolding before_group coded_pictures begins_intra has_picture
 intra_some [] u us none few on =
     rw (no_group u on, on) (λ i. next_same 3 u us i || (next_same 1 u us i && first_coded 2 us i || next_same 2 u us i && first_coded 1 us i))
 intra_some (h ∷ heads) u us none few on =
-    let p = or_false (is_picture h) (has_picture heads) none in
+    let p = or_parts (is_picture h) (has_picture heads) none in
     elim (cases_Bool (is_group h)) [
       | inl group ↦ absurd (omega (arith, headers_one h heads group, few))
       | inr off ↦ rw (off, p.0) (intra_some heads u us p.1 (sym (headers_other h heads off) ∙ few) on)
@@ -176,7 +172,7 @@ intra_is heads (u ∷ ss) z none p last = elim (cases_Bool (nat_eq (group_header
 pub frame_alone : (intra : Bool) (structure : ℕ) (next : ℕ → Bool) → (((nat_eq structure 1 || nat_eq structure 2) ≡ false) ⊎ ((s : ℕ) → next s ≡ false))
     → frame_of (λ s. intra && nat_eq structure s) next ≡ (intra && nat_eq structure 3)
 frame_alone intra structure next (inl off) =
-    let p = or_false (nat_eq structure 1) (nat_eq structure 2) off in
+    let p = or_parts (nat_eq structure 1) (nat_eq structure 2) off in
     (λ i. (intra && nat_eq structure 3) || ((intra && p.0 i) && next 2 || (intra && p.1 i) && next 1)) ∙ by_case intra (nat_eq structure 3) (next 1) (next 2)
   where
     by_case : (a b c d : Bool) → ((a && b) || ((a && false) && d || (a && false) && c)) ≡ (a && b)
@@ -216,17 +212,11 @@ frame_second intra structure intra2 structure2 field = elim (cases_Bool (nat_eq 
     apart n on = ap (λ (x : ℕ). nat_eq x 2) (eqb-true n 1 on)
 
     first : (a b c d : Bool) → (c ≡ true → d ≡ false) → ((a && false) || ((a && true) && (b && d) || (a && false) && (b && c))) ≡ (a && (b && ((c || d) && not c)))
-    first false b c d x = refl
-    first true false c d x = refl
     first true true true true x = x refl
-    first true true true false x = refl
     first true true false true x = refl
-    first true true false false x = refl
+    first _ _ _ _ x = refl
 
     other : (a b c d : Bool) → (c ≡ true → d ≡ false) → ((a && false) || ((a && false) && (b && d) || (a && true) && (b && c))) ≡ (a && (b && ((c || d) && not d)))
-    other false b c d x = refl
-    other true false c d x = refl
     other true true true true x = x refl
-    other true true true false x = refl
     other true true false true x = refl
-    other true true false false x = refl
+    other _ _ _ _ x = refl

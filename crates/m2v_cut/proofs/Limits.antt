@@ -24,13 +24,18 @@ lt_false a b le = elim (cases_Bool (nat_lt a b)) [
 
 -- ---- the pieces up to a group
 
+-- what passes each piece with no more groups than are left passes such pieces
+passed_on : (f : ℕ → List (List ℕ) → List (List ℕ)) → ((n : ℕ) (p : List ℕ) (ps : List (List ℕ)) → groups_of p ≤ n → f n (p ∷ ps) ≡ p ∷ f (n - groups_of p) ps)
+    → (ps qs : List (List ℕ)) (n : ℕ) → all_groups ps ≤ n → f n (ps ++ qs) ≡ ps ++ f (n - all_groups ps) qs
+passed_on f passes [] qs n le = ap (λ (k : ℕ). f k qs) (omega arith)
+passed_on f passes (p ∷ ps) qs n le =
+    let e : (n - groups_of p) - all_groups ps ≡ n - (groups_of p + all_groups ps) = omega arith in
+    passes n p (ps ++ qs) (omega (arith, le))
+    ∙ ap (λ (l : List (List ℕ)). p ∷ l) (passed_on f passes ps qs (n - groups_of p) (omega (arith, le)) ∙ ap (λ (k : ℕ). ps ++ f k qs) e)
+
 pub to_group_on : (ps qs : List (List ℕ)) (n : ℕ) → all_groups ps ≤ n → to_group n (ps ++ qs) ≡ ps ++ to_group (n - all_groups ps) qs
 unfolding to_group
-to_group_on [] qs n le = ap (λ (k : ℕ). to_group k qs) (omega arith)
-to_group_on (p ∷ ps) qs n le =
-    let e : (n - groups_of p) - all_groups ps ≡ n - (groups_of p + all_groups ps) = omega arith in
-    rw (lt_false n (groups_of p) (omega (arith, le)))
-    (ap (λ (l : List (List ℕ)). p ∷ l) (to_group_on ps qs (n - groups_of p) (omega (arith, le)) ∙ ap (λ (k : ℕ). ps ++ to_group k qs) e))
+to_group_on ps qs n le = passed_on to_group (λ m p rest few. rw (lt_false m (groups_of p) few) refl) ps qs n le
 
 pub to_group_all : (ps : List (List ℕ)) (n : ℕ) → all_groups ps ≤ n → to_group n ps ≡ ps
 unfolding to_group
@@ -43,11 +48,7 @@ to_group_stop ps q qs n le more =
 
 pub to_frame_on : (ps qs : List (List ℕ)) (n : ℕ) → all_groups ps ≤ n → to_frame n (ps ++ qs) ≡ ps ++ to_frame (n - all_groups ps) qs
 unfolding to_frame
-to_frame_on [] qs n le = ap (λ (k : ℕ). to_frame k qs) (omega arith)
-to_frame_on (p ∷ ps) qs n le =
-    let e : (n - groups_of p) - all_groups ps ≡ n - (groups_of p + all_groups ps) = omega arith in
-    rw (lt_false n (groups_of p) (omega (arith, le)))
-    (ap (λ (l : List (List ℕ)). p ∷ l) (to_frame_on ps qs (n - groups_of p) (omega (arith, le)) ∙ ap (λ (k : ℕ). ps ++ to_frame k qs) e))
+to_frame_on ps qs n le = passed_on to_frame (λ m p rest few. rw (lt_false m (groups_of p) few) refl) ps qs n le
 
 pub to_frame_here : (ps : List (List ℕ)) (w : List ℕ) (later : List (List ℕ)) (from n : ℕ) (field : Bool) → all_groups ps ≤ from → n ≡ from - all_groups ps → n < groups_of w → is_field (first_picture (drop 1 (from_group n (units_of w)))) ≡ field
     → to_frame from (ps ++ w ∷ later) ≡ ps ++ w ∷ first_if field later

@@ -215,13 +215,9 @@ module _ {S K : Type 0} (left : S → Option (List ℕ)) (input_faults : S → �
 
   pub put_stopped : (most : ℕ) (old now : Copied) (i0 i1 i2 : S) (o0 o1 o2 : K) (c0 c c' : Cutting) (p : Piece) (e : CutError) → output_faults o0 ≤ output_faults o1 → PuttingOn most old now (input i0 i1) (output o0 o1) c0 c → Handed c (left i1) c' (left i2) (Some p) → c'.begun ≡ true → Keeps c (left i1) c' (left i2)
       → (now.groups + groups_of (whole_of p) ≤ most) × Cuts (bytes_of (whole_of p)) (output o1 o2) e → RestFails most old.groups (input i0 i2) (output o0 o2) c0 e
-  put_stopped most old now i0 i1 i2 o0 o1 o2 c0 c c' p errors.Read le so handed begun keeps cut = absurd cut.1
   put_stopped most old now i0 i1 i2 o0 o1 o2 c0 c c' p errors.Write le so handed begun keeps cut = (rose_since le cut.1.0, piece_cut most old now i0 i1 i2 o0 o1 o2 c0 c c' p so handed begun keeps cut.0 cut.1.1)
-  put_stopped most old now i0 i1 i2 o0 o1 o2 c0 c c' p (errors.NoGroup have need) le so handed begun keeps cut = absurd cut.1
-  put_stopped most old now i0 i1 i2 o0 o1 o2 c0 c c' p (errors.NotCuttable place) le so handed begun keeps cut = absurd cut.1
-  put_stopped most old now i0 i1 i2 o0 o1 o2 c0 c c' p errors.TooLong le so handed begun keeps cut = absurd cut.1
-  put_stopped most old now i0 i1 i2 o0 o1 o2 c0 c c' p errors.PictureTooLarge le so handed begun keeps cut = absurd cut.1
   put_stopped most old now i0 i1 i2 o0 o1 o2 c0 c c' p errors.Memory le so handed begun keeps cut = piece_cut most old now i0 i1 i2 o0 o1 o2 c0 c c' p so handed begun keeps cut.0 cut.1
+  put_stopped most old now i0 i1 i2 o0 o1 o2 c0 c c' p _ le so handed begun keeps cut = absurd cut.1
 
 -- ---- a second piece
 

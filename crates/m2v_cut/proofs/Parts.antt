@@ -81,13 +81,9 @@ module _ {S K : Type 0} (left : S → Option (List ℕ)) (input_faults : S → �
 
   pub head_failed : (i0 i1 i2 : S) (o0 o1 : K) (from count : ℕ) (c c' : Cutting) (f : Found) (start : Start) (second : Option Piece) (sequence : ℕ) (e : CutError) → 1 ≤ count → IsFound from (input i0 i1) c f → Second start.first (left i1) (left i2) c c' second → IsStart (cut 0 (whole_of f.piece)).1 f.number start
       → cut_place start second ≡ Some sequence → Cuts (head_of (whole_of f.piece) sequence start.header f.behind) (output o0 o1) e → Fails from count (input i0 i2) (output o0 o1) e
-  head_failed i0 i1 i2 o0 o1 from count c c' f start second sequence errors.Read one found s is can cut = absurd cut
   head_failed i0 i1 i2 o0 o1 from count c c' f start second sequence errors.Write one found s is can cut = (cut.0, head_part i0 i1 i2 o0 o1 from count c c' f start second sequence one found s is can cut.1)
-  head_failed i0 i1 i2 o0 o1 from count c c' f start second sequence (errors.NoGroup have need) one found s is can cut = absurd cut
-  head_failed i0 i1 i2 o0 o1 from count c c' f start second sequence (errors.NotCuttable place) one found s is can cut = absurd cut
-  head_failed i0 i1 i2 o0 o1 from count c c' f start second sequence errors.TooLong one found s is can cut = absurd cut
-  head_failed i0 i1 i2 o0 o1 from count c c' f start second sequence errors.PictureTooLarge one found s is can cut = absurd cut
   head_failed i0 i1 i2 o0 o1 from count c c' f start second sequence errors.Memory one found s is can cut = head_part i0 i1 i2 o0 o1 from count c c' f start second sequence one found s is can cut
+  head_failed i0 i1 i2 o0 o1 from count c c' f start second sequence _ one found s is can cut = absurd cut
 
   -- ---- the pieces behind it weren't written whole
 

@@ -1,7 +1,7 @@
 -- Where a group stands among units that stand one behind another.
 use Rattle.std.proofs.Common.{◌≡◌, ℕ, zero, suc, ◌+◌, ◌-◌, ◌<◌, ◌≤◌, Bool, true, false, List, [], ◌∷◌, ◌++◌, length, drop, Option, Some, None, inl, inr, refl, sym, ap, subst, ◌∙◌, append_assoc, arith}
 use Rattle.std.specs.Prelude.{nat_eq, not, ◌&&◌, ◌||◌, if◌then◌else◌}
-use Rattle.std.proofs.lemmas.Bool.{cases_Bool, eqb-true}
+use Rattle.std.proofs.lemmas.Bool.{cases_Bool, eqb-true, or_parts}
 use Rattle.std.proofs.lemmas.List.{append-nil}
 use Rattle.m2v_model.specs.Units.{Units}
 use Rattle.m2v_model.specs.Streams.{value_of}
@@ -100,6 +100,20 @@ pub record Holds (n : ℕ) (us vs : Units) : Type 0 where
   pub whole : us ≡ before_group n us ++ from_group n us
   pub headers : group_headers (before_group n us) ≡ n
 
+-- behind a unit that leaves group m to be looked for
+holds_on : (n m : ℕ) (u : List ℕ) (us vs : Units) → Holds m us vs → before_group n (u ∷ (us ++ vs)) ≡ u ∷ before_group m (us ++ vs) → from_group n (u ∷ (us ++ vs)) ≡ from_group m (us ++ vs)
+    → before_group n (u ∷ us) ≡ u ∷ before_group m us → from_group n (u ∷ us) ≡ from_group m us → group_headers (u ∷ before_group m us) ≡ n → Holds n (u ∷ us) vs
+holds_on n m u us vs r before behind b f headers = record {
+  before = before ∙ ap (λ (l : Units). u ∷ l) r.before ∙ sym b;
+  behind = behind ∙ r.behind ∙ ap (λ (l : Units). l ++ vs) (sym f);
+  head = r.head;
+  rest = r.rest;
+  is = f ∙ r.is;
+  group = r.group;
+  whole = ap (λ (l : Units). u ∷ l) r.whole ∙ (λ i. (sym b) i ++ (sym f) i);
+  headers = ap group_headers b ∙ headers;
+}
+
 pub holds : (n : ℕ) (us vs : Units) → n < group_headers us → Holds n us vs
 unfolding group_headers
 holds n [] vs less = absurd (omega arith)
@@ -108,18 +122,7 @@ holds n (u ∷ us) vs less = elim (cases_Bool (is_group u)) [
   | inr off ↦
       let h = headers_other u us off in
       let r = holds n us vs (omega (arith, h, less)) in
-      let b = before_other n u us off in
-      let f = from_other n u us off in
-      record {
-        before = before_other n u (us ++ vs) off ∙ ap (λ (l : Units). u ∷ l) r.before ∙ sym b;
-        behind = from_other n u (us ++ vs) off ∙ r.behind ∙ ap (λ (l : Units). l ++ vs) (sym f);
-        head = r.head;
-        rest = r.rest;
-        is = f ∙ r.is;
-        group = r.group;
-        whole = ap (λ (l : Units). u ∷ l) r.whole ∙ (λ i. (sym b) i ++ (sym f) i);
-        headers = ap group_headers b ∙ headers_other u (before_group n us) off ∙ r.headers;
-      }
+      holds_on n n u us vs r (before_other n u (us ++ vs) off) (from_other n u (us ++ vs) off) (before_other n u us off) (from_other n u us off) (headers_other u (before_group n us) off ∙ r.headers)
 ]
   where
     header : (m : ℕ) → ((k : ℕ) → k < group_headers us → Holds k us vs) → group_headers (u ∷ us) ≡ suc (group_headers us) → m < group_headers (u ∷ us) → is_group u ≡ true → Holds m (u ∷ us) vs
@@ -138,18 +141,7 @@ holds n (u ∷ us) vs less = elim (cases_Bool (is_group u)) [
         }
     header (suc m) ih h small on =
         let r = ih m (omega (arith, h, small)) in
-        let b = before_header m u us on in
-        let f = from_header m u us on in
-        record {
-          before = before_header m u (us ++ vs) on ∙ ap (λ (l : Units). u ∷ l) r.before ∙ sym b;
-          behind = from_header m u (us ++ vs) on ∙ r.behind ∙ ap (λ (l : Units). l ++ vs) (sym f);
-          head = r.head;
-          rest = r.rest;
-          is = f ∙ r.is;
-          group = r.group;
-          whole = ap (λ (l : Units). u ∷ l) r.whole ∙ (λ i. (sym b) i ++ (sym f) i);
-          headers = ap group_headers b ∙ headers_one u (before_group m us) on ∙ ap suc r.headers;
-        }
+        holds_on (suc m) m u us vs r (before_header m u (us ++ vs) on) (from_header m u (us ++ vs) on) (before_header m u us on) (from_header m u us on) (headers_one u (before_group m us) on ∙ ap suc r.headers)
 
 -- no group has the number
 pub none_holds : (n : ℕ) (us : Units) → group_headers us ≤ n → (from_group n us ≡ []) × (before_group n us ≡ us)
@@ -168,10 +160,6 @@ pub record InPiece (n : ℕ) (vs : Units) (s : Shape vs) : Type 0 where
   pub no_picture : has_picture heads ≡ false
   pub held : group_headers s.tail ≡ 0
 
-or_false : (a b : Bool) → (a || b) ≡ false → (a ≡ false) × (b ≡ false)
-or_false true b e = absurd cc
-or_false false b e = (refl, e)
-
 picture_no_group : (u : List ℕ) → is_picture u ≡ true → is_group u ≡ false
 picture_no_group u on = let e = eqb-true (value_of u) 0x00 on in rw e refl
 
@@ -185,7 +173,7 @@ in_piece n vs s less =
     let t : group_headers s.tail ≡ 0 = tail_headers s.tail s.pictured in
     let all : group_headers vs ≡ group_headers s.heads + group_headers s.tail = ap group_headers s.is ∙ headers-append s.heads s.tail in
     let h = holds n s.heads s.tail (omega (arith, all, t, less)) in
-    let parts = or_false _ _ (sym (picture-append (before_group n s.heads) (from_group n s.heads)) ∙ ap has_picture (sym h.whole) ∙ s.none) in
+    let parts = or_parts _ _ (sym (picture-append (before_group n s.heads) (from_group n s.heads)) ∙ ap has_picture (sym h.whole) ∙ s.none) in
     record {
       none = ap (λ (l : Units). has_picture (before_group n l)) s.is ∙ ap has_picture h.before ∙ parts.0;
       heads = from_group n s.heads;
@@ -205,7 +193,7 @@ pub first_behind : (xs ys : Units) → has_picture xs ≡ false → group_header
 unfolding first_picture has_picture
 first_behind [] ys none few = refl
 first_behind (x ∷ xs) ys none few =
-    let p = or_false (is_picture x) (has_picture xs) none in
+    let p = or_parts (is_picture x) (has_picture xs) none in
     elim (cases_Bool (is_group x)) [
       | inl on ↦ absurd (omega (arith, headers_one x xs on, few))
       | inr off ↦ rw (off, p.0) (first_behind xs ys p.1 (sym (headers_other x xs off) ∙ few))
@@ -215,7 +203,7 @@ pub first_none : (xs ys : Units) → has_picture xs ≡ false → 0 < group_head
 unfolding first_picture has_picture group_headers
 first_none [] ys none some = absurd (omega arith)
 first_none (x ∷ xs) ys none some =
-    let p = or_false (is_picture x) (has_picture xs) none in
+    let p = or_parts (is_picture x) (has_picture xs) none in
     elim (cases_Bool (is_group x)) [
       | inl on ↦ rw on refl
       | inr off ↦ rw (off, p.0) (first_none xs ys p.1 (subst (λ (n : ℕ). 0 < n) (headers_other x xs off) some))

@@ -21,23 +21,15 @@ module _ {K : Type 0} (held : K → Option (List ℕ)) (output_faults : K → �
 
   -- more was to be written
   pub cuts_more : (o0 o1 : K) (bytes more : List ℕ) (e : CutError) → Cuts bytes (output o0 o1) e → Cuts (bytes ++ more) (output o0 o1) e
-  cuts_more o0 o1 bytes more errors.Read cut = absurd cut
   cuts_more o0 o1 bytes more errors.Write cut = (cut.0, prefix_of_more cut.1 more)
-  cuts_more o0 o1 bytes more (errors.NoGroup have need) cut = absurd cut
-  cuts_more o0 o1 bytes more (errors.NotCuttable place) cut = absurd cut
-  cuts_more o0 o1 bytes more errors.TooLong cut = absurd cut
-  cuts_more o0 o1 bytes more errors.PictureTooLarge cut = absurd cut
   cuts_more o0 o1 bytes more errors.Memory cut = prefix_of_more cut more
+  cuts_more o0 o1 bytes more _ cut = absurd cut
 
   -- some was written before
   pub cuts_on : (o0 o1 o2 : K) (bytes more : List ℕ) (e : CutError) → output_faults o0 ≤ output_faults o1 → Grows (held o0) bytes (held o1) → Cuts more (output o1 o2) e → Cuts (bytes ++ more) (output o0 o2) e
-  cuts_on o0 o1 o2 bytes more errors.Read le grown cut = absurd cut
   cuts_on o0 o1 o2 bytes more errors.Write le grown cut = (rose_since le cut.0, prefix_on grown cut.1)
-  cuts_on o0 o1 o2 bytes more (errors.NoGroup have need) le grown cut = absurd cut
-  cuts_on o0 o1 o2 bytes more (errors.NotCuttable place) le grown cut = absurd cut
-  cuts_on o0 o1 o2 bytes more errors.TooLong le grown cut = absurd cut
-  cuts_on o0 o1 o2 bytes more errors.PictureTooLarge le grown cut = absurd cut
   cuts_on o0 o1 o2 bytes more errors.Memory le grown cut = prefix_on grown cut
+  cuts_on o0 o1 o2 bytes more _ le grown cut = absurd cut
 
   -- zero bytes, of which some were written
   pub zeros_on : (o0 o1 o2 : K) (zeros left n : ℕ) → n ≤ left → left ≤ zeros → Grows (held o0) (replicate (zeros - left) 0) (held o1) → Grows (held o1) (replicate n 0) (held o2) → Grows (held o0) (replicate (zeros - (left - n)) 0) (held o2)

@@ -29,7 +29,7 @@ use Rattle.m2v_cut.proofs.Intras.{ends_none, some_or_none}
 use Rattle.m2v_cut.proofs.Parts.{looks_all}
 use Rattle.m2v_cut.proofs.Takings.{Stands}
 use Rattle.m2v_cut.proofs.Joins.{groups_on}
-use Rattle.m2v_cut.proofs.Decided.{LooksAt, At, at_group, stands_at, decided, Opened, opened}
+use Rattle.m2v_cut.proofs.Decided.{behind_header, LooksAt, At, at_group, stands_at, decided, Opened, opened}
 use Rattle.m2v_cut.proofs.Limits.{lt_true, to_frame_here, among_fit, length_on}
 use Rattle.m2v_cut.proofs.Finals.{low_start, groups_text, group_reads, over_piece, error_of}
 use Rattle.m2v_cut.proofs.Outcomes.{Here, here_of, copied_here}
@@ -55,9 +55,7 @@ field_is from n us first w later start a is =
     let one : Split w later a.back a.rest = a.split in
     let s : Shape one.vs = one.shape in
     let o : Opened n one.vs s = opened n one.vs s a.here in
-    let b = holds n one.vs one.ends a.here in
-    let behind : from_group n (cut 0 w).1 ≡ from_group n one.vs ++ one.ends = ap (λ (x : List ℕ × Units). from_group n x.1) one.units ∙ b.behind in
-    let after : drop 1 (from_group n (cut 0 w).1) ≡ o.heads ++ (s.tail ++ one.ends) = ap (drop 1) behind ∙ ap (λ (l : Units). drop 1 (l ++ one.ends)) o.is ∙ append_assoc o.heads s.tail one.ends in
+    let after = behind_header from n us first w later a in
     let near : drop 1 (from_group n (units_of w)) ≡ o.heads ++ s.tail = ap (λ (l : Units). drop 1 (from_group n l)) (split_units w later a.back a.rest one) ∙ ap (drop 1) o.is in
     let same = ap first_picture near ∙ same_first o.heads s.tail one.ends o.none one.at_end one.apart ∙ ap first_picture (sym after) in
     ap is_field same ∙ ap is_field_number (sym (is.first).structure)

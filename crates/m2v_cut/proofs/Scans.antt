@@ -2,11 +2,13 @@
 use Rattle.std.proofs.Common.{◌≡◌, ℕ, zero, suc, ◌+◌, ◌*◌, ◌≤◌, Bool, true, false, List, [], ◌∷◌, ◌++◌, length, Option, Some, None, inl, inr, refl, sym, ap, subst, ◌∙◌, append_assoc, arith}
 use Rattle.std.specs.Prelude.{nat_eq, not, ◌&&◌, ◌||◌, if◌then◌else◌}
 use Rattle.std.proofs.lemmas.Bool.{cases_Bool}
+use Rattle.std.proofs.Math.Bool.{or-false}
 use Rattle.std.proofs.lemmas.List.{append-nil}
 use Rattle.m2v_model.specs.Units.{Units, unit_bits}
 use Rattle.m2v_model.specs.Streams.{value_of}
 use Rattle.m2v_law_group.specs.Groups.{is_sequence, is_group, has_sequence, from_last_sequence, before_group, from_group}
 use Rattle.m2v_cut.specs.Looks.{IsLastSequence, IsNumberBehind, last_behind}
+use Rattle.m2v_cut.proofs.Fulls.{sequence-append, last_later, last_behind_all}
 
 -- units passed before the header of group n among those that were there, of which some are left
 pub record Passed (n : ℕ) (all : Units) (m : ℕ) (left : Units) (found : Option ℕ) : Type 0 where
@@ -21,51 +23,16 @@ passed_none n all = record { passed = []; before = refl; behind = refl; last = r
 
 has_more : (us : Units) (u : List ℕ) → has_sequence (us ++ u ∷ []) ≡ (has_sequence us || is_sequence u)
 unfolding has_sequence
-has_more [] u = by_case (is_sequence u)
-  where
-    by_case : (b : Bool) → (b || false) ≡ b
-    by_case true = refl
-    by_case false = refl
-has_more (v ∷ us) u = ap (λ (b : Bool). is_sequence v || b) (has_more us u) ∙ by_case (is_sequence v) (has_sequence us) (is_sequence u)
-  where
-    by_case : (a b c : Bool) → (a || (b || c)) ≡ ((a || b) || c)
-    by_case true b c = refl
-    by_case false b c = refl
+has_more us u = sequence-append us (u ∷ []) ∙ ap (λ (b : Bool). has_sequence us || b) (or-false (is_sequence u))
 
 -- another unit, which is no sequence header, behind a last one
 last_more : (us : Units) (u : List ℕ) → is_sequence u ≡ false → has_sequence us ≡ true → from_last_sequence (us ++ u ∷ []) ≡ from_last_sequence us ++ u ∷ []
-unfolding has_sequence from_last_sequence
-last_more [] u off on = absurd cc
-last_more (v ∷ us) u off on =
-    let e : has_sequence (us ++ u ∷ []) ≡ has_sequence us = has_more us u ∙ ap (λ (b : Bool). has_sequence us || b) off ∙ by_case (has_sequence us) in
-    elim (cases_Bool (is_sequence v && not (has_sequence us))) [
-      | inl here ↦ rw (e, here) refl
-      | inr there ↦ rw (e, there) (last_more us u off (later (is_sequence v) (has_sequence us) there on))
-    ]
-  where
-    by_case : (b : Bool) → (b || false) ≡ b
-    by_case true = refl
-    by_case false = refl
-
-    later : (a b : Bool) → (a && not b) ≡ false → (a || b) ≡ true → b ≡ true
-    later true true x y = refl
-    later true false x y = absurd cc
-    later false b x y = y
+unfolding has_sequence
+last_more us u off on = last_later us (u ∷ []) (rw off refl) on
 
 last_here : (us : Units) (u : List ℕ) → is_sequence u ≡ true → from_last_sequence (us ++ u ∷ []) ≡ u ∷ []
 unfolding has_sequence from_last_sequence
-last_here [] u on = rw on refl
-last_here (v ∷ us) u on =
-    let e : has_sequence (us ++ u ∷ []) ≡ true = has_more us u ∙ ap (λ (b : Bool). has_sequence us || b) on ∙ by_case (has_sequence us) in
-    rw e (off (is_sequence v) (v ∷ (us ++ u ∷ [])) (from_last_sequence (us ++ u ∷ []))) ∙ last_here us u on
-  where
-    by_case : (b : Bool) → (b || true) ≡ true
-    by_case true = refl
-    by_case false = refl
-
-    off : (a : Bool) (x y : Units) → (if a && false then x else y) ≡ y
-    off true x y = refl
-    off false x y = refl
+last_here us u on = last_behind_all us (u ∷ []) (rw on refl) ∙ rw on refl
 
 last_on : (passed : Units) (u : List ℕ) (us : Units) (found : Option ℕ) → is_sequence u ≡ false → IsLastSequence found passed (u ∷ us) → IsLastSequence found (passed ++ u ∷ []) us
 last_on passed u us None off h = has_more passed u ∙ (λ i. h i || off i)

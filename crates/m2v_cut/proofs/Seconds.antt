@@ -126,9 +126,7 @@ module _ {S : Type 0} (left : S → Option (List ℕ)) (input_faults : S → ℕ
   pub second_failed : (from count : ℕ) (i0 i1 i2 : S) (held : Change) (c : Cutting) (f : Found) (start : Start) (e : CutError) → 1 ≤ count → input_faults i0 ≤ input_faults i1 → IsFound from (input i0 i1) c f → IsStart (cut 0 (whole_of f.piece)).1 f.number start → is_field_number (start.first).structure ≡ true
       → held.new ≡ held.old → SecondFails (input i1 i2) c e → Fails from count (input i0 i2) held e
   second_failed from count i0 i1 i2 held c f start errors.Read one le found is field same s = (rose_since le s.0, nothing_taken from count i0 i1 i2 held c f found s.1 same)
-  second_failed from count i0 i1 i2 held c f start errors.Write one le found is field same s = absurd s
-  second_failed from count i0 i1 i2 held c f start (errors.NoGroup have need) one le found is field same s = absurd s
-  second_failed from count i0 i1 i2 held c f start (errors.NotCuttable place) one le found is field same s = absurd s
   second_failed from count i0 i1 i2 held c f start errors.TooLong one le found is field same s = limit_told from count i0 i1 i2 held c f start too_long reading.TooLong one found is field same passes_long s
   second_failed from count i0 i1 i2 held c f start errors.PictureTooLarge one le found is field same s = limit_told from count i0 i1 i2 held c f start too_large reading.PictureTooLarge one found is field same (λ place later low p. p) s
   second_failed from count i0 i1 i2 held c f start errors.Memory one le found is field same s = nothing_taken from count i0 i1 i2 held c f found s same
+  second_failed from count i0 i1 i2 held c f start _ one le found is field same s = absurd s

@@ -1,7 +1,7 @@
 -- What of a stream's units stands in a cut, piece by piece.
 use Rattle.std.proofs.Common.{◌≡◌, ℕ, zero, suc, ◌+◌, ◌-◌, ◌<◌, ◌≤◌, Bool, true, false, List, [], ◌∷◌, ◌++◌, length, inl, inr, refl, sym, ap, subst, ◌∙◌, append_assoc, arith}
 use Rattle.std.specs.Prelude.{nat_eq, nat_le, not, ◌&&◌, ◌||◌, if◌then◌else◌}
-use Rattle.std.proofs.lemmas.Bool.{cases_Bool, eqb-true}
+use Rattle.std.proofs.lemmas.Bool.{cases_Bool, eqb-true, or_parts}
 use Rattle.std.proofs.lemmas.List.{append-nil}
 use Rattle.m2v_model.specs.Units.{Units, joined}
 use Rattle.m2v_model.specs.Streams.{value_of}
@@ -86,10 +86,6 @@ cut_taken from count n us a vs z taken s on is =
 
 -- ---- the last sequence header
 
-or_false : (a b : Bool) → (a || b) ≡ false → (a ≡ false) × (b ≡ false)
-or_false true b e = absurd cc
-or_false false b e = (refl, e)
-
 or_true : (b : Bool) → (b || true) ≡ true
 or_true true = refl
 or_true false = refl
@@ -99,7 +95,7 @@ pub alone_before : (n : ℕ) (a vs : Units) (s : Shape vs) → n < group_headers
 alone_before n a vs s here on =
     let i = in_piece n vs s here in
     let l = last_suffix (before_group n vs) in
-    let parts = or_false _ _ (sym (picture-append l.front (from_last_sequence (before_group n vs))) ∙ ap has_picture (sym l.is) ∙ i.none) in
+    let parts = or_parts _ _ (sym (picture-append l.front (from_last_sequence (before_group n vs))) ∙ ap has_picture (sym l.is) ∙ i.none) in
     ap has_picture (last_behind_all a (before_group n vs) on) ∙ parts.1
 
 no_more : (a b : Bool) → (a || b) ≡ true → b ≡ false → a ≡ true

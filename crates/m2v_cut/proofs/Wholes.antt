@@ -199,10 +199,6 @@ module _ {S K : Type 0} (left : S → Option (List ℕ)) (input_faults : S → �
   pub end_failed : (i0 i1 i2 i3 : S) (o0 o1 o2 o3 : K) (from count bytes : ℕ) (c c1 c2 : Cutting) (f : Found) (start : Start) (second : Option Piece) (sequence : ℕ) (new : Copied) (e : CutError) → output_faults o0 ≤ output_faults o2 → IsFound from (input i0 i1) c f → Second start.first (left i1) (left i2) c c1 second
       → IsStart (cut 0 (whole_of f.piece)).1 f.number start → cut_place start second ≡ Some sequence → Grows (held o0) (head_of (whole_of f.piece) sequence start.header f.behind) (held o1)
       → BehindPut (piece_list second) count (record { groups = 1; bytes = bytes }) new (input i2 i3) (output o1 o2) c1 c2 → Cuts end_code (output o2 o3) e → Fails from count (input i0 i3) (output o0 o3) e
-  end_failed i0 i1 i2 i3 o0 o1 o2 o3 from count bytes c c1 c2 f start second sequence new errors.Read le found sec is can head b cut = absurd cut
   end_failed i0 i1 i2 i3 o0 o1 o2 o3 from count bytes c c1 c2 f start second sequence new errors.Write le found sec is can head b cut = (rose_since le cut.0, end_part i0 i1 i2 i3 o0 o1 o2 o3 from count bytes c c1 c2 f start second sequence new found sec is can head b cut.1)
-  end_failed i0 i1 i2 i3 o0 o1 o2 o3 from count bytes c c1 c2 f start second sequence new (errors.NoGroup have need) le found sec is can head b cut = absurd cut
-  end_failed i0 i1 i2 i3 o0 o1 o2 o3 from count bytes c c1 c2 f start second sequence new (errors.NotCuttable place) le found sec is can head b cut = absurd cut
-  end_failed i0 i1 i2 i3 o0 o1 o2 o3 from count bytes c c1 c2 f start second sequence new errors.TooLong le found sec is can head b cut = absurd cut
-  end_failed i0 i1 i2 i3 o0 o1 o2 o3 from count bytes c c1 c2 f start second sequence new errors.PictureTooLarge le found sec is can head b cut = absurd cut
   end_failed i0 i1 i2 i3 o0 o1 o2 o3 from count bytes c c1 c2 f start second sequence new errors.Memory le found sec is can head b cut = end_part i0 i1 i2 i3 o0 o1 o2 o3 from count bytes c c1 c2 f start second sequence new found sec is can head b cut
+  end_failed i0 i1 i2 i3 o0 o1 o2 o3 from count bytes c c1 c2 f start second sequence new _ le found sec is can head b cut = absurd cut

@@ -2,6 +2,7 @@
 use Rattle.std.proofs.Common.{◌≡◌, ◌⊎◌, ℕ, zero, suc, ◌+◌, ◌-◌, ◌*◌, ◌<◌, ◌≤◌, Bool, true, false, List, [], ◌∷◌, ◌++◌, length, take, drop, Option, Some, None, inl, inr, refl, sym, ap, subst, ◌∙◌, append_assoc, arith}
 use Rattle.std.specs.Prelude.{nat_eq, nat_le, not, is_some, slice_index, ◌&&◌, ◌||◌, if◌then◌else◌}
 use Rattle.std.proofs.lemmas.Bool.{cases_Bool, eqb-true, leb-true}
+use Rattle.std.proofs.Math.Bool.{or-false}
 use Rattle.std.proofs.lemmas.List.{append-nil, length-append, take-append-le, drop-append-le, get_or_append_left, get_or-append-add}
 use Rattle.std.proofs.Math.Seq.{drop-append_seam, drop-append-add, take-append-add}
 use Rattle.m2v_model.specs.Units.{Units, cut, unit_bits, joined}
@@ -20,7 +21,7 @@ use Rattle.m2v_cut.proofs.Intras.{ends_none, some_or_none}
 use Rattle.m2v_cut.proofs.Lefts.{last_suffix}
 use Rattle.m2v_cut.proofs.Takings.{Stands, full_behind, picked_end, picked_stop, cut_taken}
 use Rattle.m2v_cut.proofs.Firsts.{some_place, and_true}
-use Rattle.m2v_cut.proofs.Decided.{Opened, opened, At, stands_at}
+use Rattle.m2v_cut.proofs.Decided.{behind_header, Opened, opened, At, stands_at}
 
 -- ---- bytes of the first piece
 
@@ -90,9 +91,7 @@ ready from n us first w later a there =
     let one : Split w later a.back a.rest = a.split in
     let s : Shape one.vs = one.shape in
     let o : Opened n one.vs s = opened n one.vs s a.here in
-    let h = holds n one.vs one.ends a.here in
-    let behind : from_group n (cut 0 w).1 ≡ from_group n one.vs ++ one.ends = ap (λ (x : List ℕ × Units). from_group n x.1) one.units ∙ h.behind in
-    let after : drop 1 (from_group n (cut 0 w).1) ≡ o.heads ++ (s.tail ++ one.ends) = ap (drop 1) behind ∙ ap (λ (l : Units). drop 1 (l ++ one.ends)) o.is ∙ append_assoc o.heads s.tail one.ends in
+    let after = behind_header from n us first w later a in
     let p = picture_there o.heads s.tail one.ends o.none s.pictured one.at_end (λ e. there (ap first_picture after ∙ e)) in
     record {
       single = omega (arith, ap group_headers o.is, headers_one o.head (o.heads ++ s.tail) o.group, headers-append o.heads s.tail, tail_headers s.tail s.pictured, p.0);
@@ -133,10 +132,6 @@ picks_some count hs z mids q qs full s single few more =
 
 pub chosen_byte : (before : Units) (behind : Bool) (u : List ℕ) (us : Units) → has_picture before ≡ behind → behind_cut before (u ∷ us) ≡ (if behind then broken_header u else u) ∷ us
 chosen_byte before behind u us e = ap (λ (b : Bool). (if b then broken_header u else u) ∷ us) e
-
-or_false : (b : Bool) → (b || false) ≡ b
-or_false true = refl
-or_false false = refl
 
 pub long_head : (us ends : Units) (u : List ℕ) (rest : Units) → us ≡ u ∷ rest → is_long (us ++ ends) ≡ true → 8 ≤ length u
 long_head us ends u rest e on =
@@ -182,7 +177,7 @@ written from n count us first w later start second sequence bytes a r is can pic
     let whole : w ≡ joined l.front ++ (joined ls ++ (o.head ++ joined hr)) =
     one.whole ∙ ap (λ (x : Units). joined (one.vs ++ x)) r.none ∙ ap joined (append-nil one.vs ∙ parts) ∙ joined-append l.front (ls ++ from_group n one.vs)
     ∙ ap (λ (x : List ℕ). joined l.front ++ x) (joined-append ls (from_group n one.vs) ∙ ap (λ (x : Units). joined ls ++ joined x) o.is) in
-    let flag : has_picture (a.front ++ bs) ≡ are_some first = picture-append a.front bs ∙ (λ i. fulls_picture first a.front a.fulls i || o.before i) ∙ or_false (are_some first) in
+    let flag : has_picture (a.front ++ bs) ≡ are_some first = picture-append a.front bs ∙ (λ i. fulls_picture first a.front a.fulls i || o.before i) ∙ or-false (are_some first) in
     let chosen : behind_cut (a.front ++ bs) (from_group n one.vs ++ picks.taken) ≡ (if are_some first then broken_header o.head else o.head) ∷ (hr ++ picks.taken) =
     ap (λ (x : Units). behind_cut (a.front ++ bs) (x ++ picks.taken)) o.is ∙ chosen_byte (a.front ++ bs) (are_some first) o.head (hr ++ picks.taken) flag in
     let header : List ℕ = if are_some first then broken_header o.head else o.head in

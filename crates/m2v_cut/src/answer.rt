@@ -1,3 +1,6 @@
+ghost use Rattle.std.specs.Prelude.{◌≡◌};
+ghost use Rattle.m2v_cut.specs.declared.answer.CutError.TheVariants as errors;
+
 use m2v_decode::Memory;
 
 /// What was cut out.
@@ -29,9 +32,6 @@ pub enum CutError {
 }
 
 impl From<Memory> for CutError {
-    ghost use Rattle.std.specs.Prelude.{◌≡◌};
-    ghost use Rattle.m2v_cut.specs.declared.answer.CutError.TheVariants as errors;
-
     ghost from_gives = { λ e f. f ≡ errors.Memory };
 
     fn from(_: Memory) -> CutError {

@@ -34,8 +34,7 @@ pub fn reading(e: DecodeError) -> CutError
         DecodeError::TooLong => CutError::TooLong,
         DecodeError::PictureTooLarge => CutError::PictureTooLarge,
         DecodeError::Memory => CutError::Memory,
-        DecodeError::Write => unreachable!(),
-        DecodeError::Stream(_) => unreachable!(),
+        _ => unreachable!(),
     }
 }
 

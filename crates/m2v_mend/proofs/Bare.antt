@@ -2,14 +2,14 @@
 -- pieces of the stretch.
 use Rattle.std.proofs.Common.{◌≡◌, ℕ, ◌≤◌, Bool, true, false, List, [], ◌∷◌, ◌++◌, length, take, drop, inl, inr, refl, sym, ap, subst, ◌∙◌, append_assoc, append-nil, arith}
 use Rattle.std.specs.Prelude.{nat_eq, if◌then◌else◌}
-use Rattle.std.proofs.lemmas.Bool.{cases_Bool, both_ways}
-use Rattle.std.proofs.lemmas.List.{take-append-drop, length-append, drop-append-le}
+use Rattle.std.proofs.lemmas.Bool.{cases_Bool}
+use Rattle.std.proofs.lemmas.List.{take-append-drop, length-append}
 use Rattle.m2v_model.specs.declared.phase.Phase.{Phase}
 use Rattle.m2v_model.specs.declared.phase.Phase.TheVariants.{Before, Headers, Picture}
-use Rattle.m2v_model.specs.Units.{Units, begins_code, cut, joined, Clear, AreUnits, Cuts}
+use Rattle.m2v_model.specs.Units.{Units, cut, joined, Clear, AreUnits, Cuts}
 use Rattle.m2v_model.specs.Streams.{value_of}
 use Rattle.m2v_model.specs.Pieces.{phase_after, begins_piece, is_end, piece_of, grouped}
-use Rattle.m2v_model.proofs.CutLaws.{cut_cuts, cuts_is, joined-append, are_before, are_behind, are_code}
+use Rattle.m2v_model.proofs.CutLaws.{cut_cuts, cuts_is, clear_front, joined-append, are_before, are_behind, are_code}
 use Rattle.m2v_model.proofs.PieceLaws.{value_code}
 use Rattle.m2v_model.proofs.ShiftLaws.{NoEnds}
 use Rattle.m2v_law_seam.proofs.There.{more_goes}
@@ -27,22 +27,6 @@ before_none (v ∷ vs) n = rw (n.0) (ap (λ (l : Units). v ∷ l) (before_none v
 
 -- ---- bytes before the first unit
 
-begins_more : (bs cs : List ℕ) → begins_code bs ≡ true → begins_code (bs ++ cs) ≡ true
-begins_more [] cs h = absurd cc
-begins_more (a ∷ []) cs h = absurd cc
-begins_more (a ∷ b ∷ []) cs h = absurd cc
-begins_more (a ∷ b ∷ c ∷ []) cs h = absurd cc
-begins_more (a ∷ b ∷ c ∷ v ∷ bs) cs h = h
-
--- what is clear before more bytes is clear before the first of them
-pub clear_before : (j rest more : List ℕ) → Clear 0 j (rest ++ more) → Clear 0 j rest
-clear_before j rest more h i le lt =
-    let e : drop i (j ++ rest) ++ more ≡ drop i (j ++ (rest ++ more)) = sym (drop-append-le i (j ++ rest) more (omega (arith, length-append j rest))) ∙ ap (drop i) (append_assoc j rest more) in
-    elim (cases_Bool (begins_code (drop i (j ++ rest)))) [
-      | inl on ↦ absurd (both_ways _ (h i le lt) (subst (λ (x : List ℕ). begins_code x ≡ true) e (begins_more (drop i (j ++ rest)) more on)))
-      | inr off ↦ off
-    ]
-
 -- units behind such bytes, of which some may belong to later pieces
 pub record At (j : List ℕ) (vs us : Units) : Type 0 where
   pub clear : Clear 0 j (joined (vs ++ us))
@@ -50,7 +34,7 @@ pub record At (j : List ℕ) (vs us : Units) : Type 0 where
   pub none : NoEnds vs
 
 pub at_clear : (j : List ℕ) (vs us : Units) → Clear 0 j (joined (vs ++ us)) → Clear 0 j (joined vs)
-at_clear j vs us h = clear_before j (joined vs) (joined us) (subst (Clear 0 j) (joined-append vs us) h)
+at_clear j vs us h = clear_front 0 j (joined vs) (joined us) (subst (Clear 0 j) (joined-append vs us) h)
 
 -- a piece that ends before other units
 pub front_cuts : (j : List ℕ) (vs us : Units) → At j vs us → Cuts (j ++ joined vs) j vs
@@ -73,7 +57,7 @@ code_cuts j vs u us at =
     ∙ ap (λ (l : List ℕ). l ++ (drop 4 u ++ joined us)) (sym same) in
     record {
       whole = bytes;
-      front_clear = clear_before j (joined code) (drop 4 u ++ joined us) (subst (Clear 0 j) whole at.clear);
+      front_clear = clear_front 0 j (joined code) (drop 4 u ++ joined us) (subst (Clear 0 j) whole at.clear);
       are_units = are_code vs us u at.are;
     }
 

@@ -187,18 +187,14 @@ feed_fell Input Output reading.Memory a is failed = subst (Fell Input Output) (s
 
 -- where output alone can fail no limit is answered
 pub none_past : (Output : Type 0) (a : MendError) (first left : Option (List ℕ)) → FellOut Output a → IsPast a first left
-none_past Output errors.Read first left fell = absurd fell
 none_past Output errors.Write first left fell = tt
-none_past Output errors.TooLong first left fell = absurd fell
-none_past Output errors.PictureTooLarge first left fell = absurd fell
 none_past Output errors.Memory first left fell = tt
+none_past Output _ first left fell = absurd fell
 
 pub fell_any : (Input Output : Type 0) (a : MendError) → FellOut Output a → Fell Input Output a
-fell_any Input Output errors.Read fell = absurd fell
 fell_any Input Output errors.Write fell = fell
-fell_any Input Output errors.TooLong fell = absurd fell
-fell_any Input Output errors.PictureTooLarge fell = absurd fell
 fell_any Input Output errors.Memory fell = tt
+fell_any Input Output _ fell = absurd fell
 
 -- ---- no piece is left
 

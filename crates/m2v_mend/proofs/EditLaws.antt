@@ -36,11 +36,8 @@ third_one : (a b c : ℕ) → (nat_eq a 0 && (nat_eq b 0 && nat_eq c 1)) ≡ tru
 third_one a b c e = eqb-true c 1 (both_true (nat_eq b 0) (nat_eq c 1) (both_true (nat_eq a 0) (nat_eq b 0 && nat_eq c 1) e).1).1
 
 third_of : (u rest : List ℕ) → 4 ≤ length u → begins_code u ≡ true → get_or (u ++ rest) 2 0 ≡ 1
-third_of [] rest le on = absurd (omega arith)
-third_of (a ∷ []) rest le on = absurd (omega arith)
-third_of (a ∷ b ∷ []) rest le on = absurd (omega arith)
-third_of (a ∷ b ∷ c ∷ []) rest le on = absurd (omega arith)
 third_of (a ∷ b ∷ c ∷ v ∷ w) rest le on = third_one a b c on
+third_of _ rest le on = absurd (omega arith)
 
 pub none_in_zeros : (us : Units) (k : ℕ) → AreUnits us → joined us ≡ replicate k 0 → us ≡ []
 none_in_zeros [] k are e = refl

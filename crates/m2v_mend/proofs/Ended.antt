@@ -152,40 +152,36 @@ list_is text written listed end x f = sym (ap lines_of f.gaps ∙ flat_map-appen
 -- ---- what is known of the folding at the end
 
 module _ (c : Cutting) (x : Folding) (end : ℕ) (first left : Option (List ℕ)) (start held held' : Held) (place : c.place ≡ end) (none : x.mender.out.items ≡ []) (h : Comes (IsBehind false c x) first left start held) where
-  -- the lines of the gaps that weren't handed out were written, and nothing or the end code
-  pub all_none : (a : Answer) → held'.text ≡ held.text → Grows held.list (lines_of (map gap_told x.mender.gaps.items)) held'.list → x.mender.bytes ≡ 0 → answer_told a ≡ none_kept (fault_first (8 * end) x.mender.fault) → IsAll a first left start held'
-  all_none a same lines zero is = record {
+  -- the lines of the gaps that weren't handed out were written, with what else is told
+  all_by : (a : Answer) → Grows held.list (lines_of (map gap_told x.mender.gaps.items)) held'.list
+      → ((text : List ℕ) → IsFinal text h.written h.listed end x → (answer_told a ≡ answer_to steps text) × Grows start.text (mended_bytes text) held'.text) → IsAll a first left start held'
+  all_by a lines each = record {
     bytes = h.bytes;
     moved = h.moved;
     told = λ rest e.
         let text = h.bytes ++ rest in
         let f = final c x end text h.written h.listed rest place none (h.told rest e) in
-        let no = no_strand text h.written h.listed end x f zero in (
-          is ∙ none_answered text h.written h.listed end x f no,
-          record {
-            text = subst (λ (l : List ℕ). Grows start.text l held'.text) (none_text text h.written h.listed end x f no) (subst (λ (o : Option (List ℕ)). Grows start.text h.written o) (sym same) h.grown.text);
-            list = subst (λ (l : List ℕ). Grows start.list l held'.list) (list_is text h.written h.listed end x f) (grows_on h.grown.list lines);
-          },
+        let own = each text f in (
+          own.0,
+          record { text = own.1; list = subst (λ (l : List ℕ). Grows start.list l held'.list) (list_is text h.written h.listed end x f) (grows_on h.grown.list lines) },
           f.fits,
         );
   }
 
+  -- and nothing or the end code
+  pub all_none : (a : Answer) → held'.text ≡ held.text → Grows held.list (lines_of (map gap_told x.mender.gaps.items)) held'.list → x.mender.bytes ≡ 0 → answer_told a ≡ none_kept (fault_first (8 * end) x.mender.fault) → IsAll a first left start held'
+  all_none a same lines zero is = all_by a lines (λ text f.
+      let no = no_strand text h.written h.listed end x f zero in (
+        is ∙ none_answered text h.written h.listed end x f no,
+        subst (λ (l : List ℕ). Grows start.text l held'.text) (none_text text h.written h.listed end x f no) (subst (λ (o : Option (List ℕ)). Grows start.text h.written o) (sym same) h.grown.text),
+      ))
+
   pub all_some : (a : Answer) → Grows held.text end_code held'.text → Grows held.list (lines_of (map gap_told x.mender.gaps.items)) held'.list → (x.mender.bytes ≡ 0 → ⊥) → answer_told a ≡ kept_told x → IsAll a first left start held'
-  all_some a code lines more is = record {
-    bytes = h.bytes;
-    moved = h.moved;
-    told = λ rest e.
-        let text = h.bytes ++ rest in
-        let f = final c x end text h.written h.listed rest place none (h.told rest e) in
-        let some = some_strand text h.written h.listed end x f more in (
-          is ∙ some_answered text h.written h.listed end x f some,
-          record {
-            text = subst (λ (l : List ℕ). Grows start.text l held'.text) (some_text text h.written h.listed end x f some) (grows_on h.grown.text code);
-            list = subst (λ (l : List ℕ). Grows start.list l held'.list) (list_is text h.written h.listed end x f) (grows_on h.grown.list lines);
-          },
-          f.fits,
-        );
-  }
+  all_some a code lines more is = all_by a lines (λ text f.
+      let some = some_strand text h.written h.listed end x f more in (
+        is ∙ some_answered text h.written h.listed end x f some,
+        subst (λ (l : List ℕ). Grows start.text l held'.text) (some_text text h.written h.listed end x f some) (grows_on h.grown.text code),
+      ))
 
   -- the lines weren't written whole, and nothing more
   pub cut_lines : held'.text ≡ held.text → GrowsByPrefix held.list (lines_of (map gap_told x.mender.gaps.items)) held'.list → IsCut first left start held'
@@ -208,19 +204,15 @@ module _ (c : Cutting) (x : Folding) (end : ℕ) (first left : Option (List ℕ)
       }) h
 
 pub cut_prefix : (bytes : List ℕ) (held : Change) (e : MendError) → Cuts bytes held e → GrowsByPrefix held.old bytes held.new
-cut_prefix bytes held errors.Read cut = absurd cut
 cut_prefix bytes held errors.Write cut = cut.1
-cut_prefix bytes held errors.TooLong cut = absurd cut
-cut_prefix bytes held errors.PictureTooLarge cut = absurd cut
 cut_prefix bytes held errors.Memory cut = cut
+cut_prefix bytes held _ cut = absurd cut
 
 -- an error of the one or the other sink comes where that failed
 fell_as : (A B : Type 0) → (A → B) → (e : MendError) → FellOut A e → FellOut B e
-fell_as A B f errors.Read fell = absurd fell
 fell_as A B f errors.Write fell = f fell
-fell_as A B f errors.TooLong fell = absurd fell
-fell_as A B f errors.PictureTooLarge fell = absurd fell
 fell_as A B f errors.Memory fell = tt
+fell_as A B f _ fell = absurd fell
 
 -- counts that rose in the last part rose in the whole
 pub either_since : {before between now before' between' now' : ℕ} → before ≤ between → before' ≤ between' → (Rose between now ⊎ Rose between' now') → Rose before now ⊎ Rose before' now'

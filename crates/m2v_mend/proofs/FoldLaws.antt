@@ -27,7 +27,7 @@ use Rattle.m2v_mend.specs.Heading.{IsHeads}
 use Rattle.m2v_mend.specs.Gathering.{Tally, with_one, with_all, stretch_ended, Gathering, begins_step, finished, begun_with, joined_with, with_piece, before_stretch, nothing_told}
 use Rattle.m2v_mend.specs.Members.{IsOneOfUnits, AreLater, AreSpanPieces, HeadStands, IsOfStretch, IsSpan}
 use Rattle.m2v_mend.specs.Making.{IsMade, CanBeNext, span_of_pieces, IsAtHand, IsFolded, IsNextPiece}
-use Rattle.m2v_mend.specs.Folded.{IsTold, HasSpan, IsBegun, IsGrown, Waits}
+use Rattle.m2v_mend.specs.Folded.{IsTold, SameTold, HasSpan, IsBegun, IsGrown, Waits}
 use Rattle.m2v_mend.proofs.Gathering.{piece_begins, piece_joins}
 
 -- ---- the head before units
@@ -169,7 +169,7 @@ at_hand h (Some x) has some of = (some, has, of)
 one_more : (ps : List (List ℕ)) (w : List ℕ) → 1 ≤ length (ps ++ w ∷ [])
 one_more ps w = omega (arith, length-append ps (w ∷ []))
 
-module _ (written : List ℕ) (listed : List mending.Gap) (g : Gathering) (old mid new : Folding) (m : Member) (f : IsFolded written listed g old) (n : IsNextPiece g m.piece) (heads : mid.heads ≡ old.heads) where
+module _ (written : List ℕ) (listed : List mending.Gap) (g : Gathering) (old mid new : Folding) (m : Member) (f : IsFolded written listed g old) (n : IsNextPiece g m.piece) (same_heads : mid.heads ≡ old.heads) where
   abbrev w : List ℕ
   w = whole_of m.piece
 
@@ -177,7 +177,7 @@ module _ (written : List ℕ) (listed : List mending.Gap) (g : Gathering) (old m
   past = g.before ++ units_in g.pieces
 
   heads_before : IsHeads past mid.heads
-  heads_before = subst (IsHeads past) (sym heads) f.heads
+  heads_before = subst (IsHeads past) (sym same_heads) f.heads
 
   own_units : AreUnits (units_of w)
   own_units = are_behind past (units_of w) n.are
@@ -185,43 +185,40 @@ module _ (written : List ℕ) (listed : List mending.Gap) (g : Gathering) (old m
   units_are : AreUnits (g.before ++ units_in (g.pieces ++ w ∷ []))
   units_are = subst AreUnits (sym (units_on g.before g.pieces w)) n.are
 
+  waits_more : IsTold written listed g.tally mid → SameTold mid new → ((before : Units) → IsHeads before mid.heads → IsHeads (before ++ units_of w) new.heads) → IsAtHand (joined_with g w) new.parts
+      → CanBeNext g.tally.made.strand (g.pieces ++ w ∷ []) → Waits written listed (joined_with g w) new
+  waits_more t same heads at next = record {
+    made = subst (IsMade written listed g.tally.made) (sym same.mender) t.made;
+    groups = same.groups ∙ t.groups;
+    pictures = same.pictures ∙ t.pictures;
+    heads = subst (λ (l : Units). IsHeads l new.heads) (sym (units_on g.before g.pieces w)) (heads past heads_before);
+    before = f.before;
+    are = units_are;
+    no_end = f.no_end;
+    at_hand = at;
+    waiting = refl;
+    next = next;
+  }
+
   pub folded_first : old.parts ≡ None → IsTold written listed g.tally mid → IsBegun mid m new → Waits written listed (with_piece g w) new
   folded_first empty t b =
-      let same = b.told in
       let none : g.pieces ≡ [] = subst (IsAtHand g) empty f.at_hand in
       let shape = first_span g.place g.before g.pieces m.piece.place w none n.place in
       let only : AreSpanPieces (g.pieces ++ w ∷ []) = subst (λ (l : List (List ℕ)). AreSpanPieces (l ++ w ∷ [])) (sym none) (pieces_one w n.one own_units n.no_end) in
-      subst (λ (h : Gathering). Waits written listed h new) (sym (first_piece g w none)) (record {
-        made = subst (IsMade written listed g.tally.made) (sym same.mender) t.made;
-        groups = same.groups ∙ t.groups;
-        pictures = same.pictures ∙ t.pictures;
-        heads = subst (λ (l : Units). IsHeads l new.heads) (sym (units_on g.before g.pieces w)) (b.heads past heads_before);
-        before = f.before;
-        are = units_are;
-        no_end = f.no_end;
-        at_hand = at_hand (joined_with g w) new.parts (subst (λ (s : Span). HasSpan s new.parts) shape (b.span past heads_before n.zeros)) (one_more g.pieces w) (of_stretch g.place g.before (g.pieces ++ w ∷ []) f.before units_are only);
-        waiting = refl;
-        next = next_first g.tally.made.strand (g.pieces ++ w ∷ []) (subst (CanBeNext g.tally.made.strand) none f.next);
-      })
+      subst (λ (h : Gathering). Waits written listed h new) (sym (first_piece g w none))
+      (waits_more t b.told b.heads
+      (at_hand (joined_with g w) new.parts (subst (λ (s : Span). HasSpan s new.parts) shape (b.span past heads_before n.zeros)) (one_more g.pieces w) (of_stretch g.place g.before (g.pieces ++ w ∷ []) f.before units_are only))
+      (next_first g.tally.made.strand (g.pieces ++ w ∷ []) (subst (CanBeNext g.tally.made.strand) none f.next)))
 
   pub folded_grown : (x : SpanParts) → old.parts ≡ Some x → begins_step g.waiting w ≡ false → IsTold written listed g.tally mid → IsGrown mid x m new → Waits written listed (with_piece g w) new
   folded_grown x there off t b =
-      let same = b.told in
       let has : IsAtHand g (Some x) = subst (IsAtHand g) there f.at_hand in
       let plain : is_entry w ≡ false = (or_parts (is_entry w) _ off).0 in
       let more = pieces_more g.pieces w has.2.pieces (n.begins has.0) plain (are_behind g.before (units_in (g.pieces ++ w ∷ [])) units_are) n.no_end in
-      subst (λ (h : Gathering). Waits written listed h new) (sym (piece_joins g w off)) (record {
-        made = subst (IsMade written listed g.tally.made) (sym same.mender) t.made;
-        groups = same.groups ∙ t.groups;
-        pictures = same.pictures ∙ t.pictures;
-        heads = subst (λ (l : Units). IsHeads l new.heads) (sym (units_on g.before g.pieces w)) (b.heads past heads_before);
-        before = f.before;
-        are = units_are;
-        no_end = f.no_end;
-        at_hand = at_hand (joined_with g w) new.parts (b.span (span_of_pieces g) has.1 has.0 n.zeros n.place) (one_more g.pieces w) (of_stretch g.place g.before (g.pieces ++ w ∷ []) f.before units_are more);
-        waiting = refl;
-        next = next_more g.tally.made.strand g.pieces w has.0 f.next;
-      })
+      subst (λ (h : Gathering). Waits written listed h new) (sym (piece_joins g w off))
+      (waits_more t b.told b.heads
+      (at_hand (joined_with g w) new.parts (b.span (span_of_pieces g) has.1 has.0 n.zeros n.place) (one_more g.pieces w) (of_stretch g.place g.before (g.pieces ++ w ∷ []) f.before units_are more))
+      (next_more g.tally.made.strand g.pieces w has.0 f.next))
 
   bytes_before : 1 ≤ length g.pieces → AreSpanPieces g.pieces → length (joined past) ≤ g.place + length (joined g.pieces)
   bytes_before some are =

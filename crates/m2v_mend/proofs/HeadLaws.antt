@@ -275,6 +275,22 @@ seen_more us u met met' seen more on = elim (more on) [
   | inr here ↦ has_snoc us u ∙ ap (λ (b : Bool). has_sequence us || b) here ∙ or-true (has_sequence us)
 ]
 
+-- one unit more, where these hold of what is behind it
+walked_on : (us : Units) (z : ℕ) (bytes : List ℕ) (at n behind : ℕ) (met met' : Bool) (old mid new : Heads) (w : WalkedTo us z bytes at met old mid) (u : List ℕ) (others : Units) → w.rest ≡ u ∷ others → AreUnits others
+    → text_of (take n (drop at bytes)) behind ≡ u → (met' ≡ true → (met ≡ true) ⊎ (is_sequence (text_of (take n (drop at bytes)) behind) ≡ true)) → IsBehind mid (text_of (take n (drop at bytes)) behind) new
+    → at + n ≤ length bytes → (at + n < length bytes → (text_of (drop (at + n) bytes) z ≡ joined others) × IsZeroEnded (drop (at + n) bytes) z) → (length bytes ≤ at + n → others ≡ []) → WalkedTo us z bytes (at + n) met' old new
+walked_on us z bytes at n behind met met' old mid new w u others rest units unit more step within going over = record {
+  done = w.done ++ u ∷ [];
+  rest = others;
+  are = w.are ∙ ap (λ (l : Units). w.done ++ l) rest ∙ sym (append_assoc w.done (u ∷ []) others);
+  units = units;
+  within = within;
+  going = going;
+  over = over;
+  seen = seen_more w.done u met met' w.seen (subst (λ (x : List ℕ). met' ≡ true → (met ≡ true) ⊎ (is_sequence x ≡ true)) unit more);
+  heads = λ before h. subst (λ (l : Units). IsHeads l new) (append_assoc before w.done (u ∷ [])) (subst (λ (x : List ℕ). IsHeads ((before ++ w.done) ++ x ∷ []) new) unit (step (before ++ w.done) (w.heads before h)));
+}
+
 pub walked_next : (us : Units) (z : ℕ) (bytes : List ℕ) (at n behind : ℕ) (met met' : Bool) (old mid new : Heads) → WalkedTo us z bytes at met old mid → at < length bytes → IsFirstLength (drop at bytes) z n
     → ((n ≡ length (drop at bytes)) × (behind ≡ z)) ⊎ ((n ≡ length (drop at bytes) → ⊥) × (behind ≡ 0))
     → (met' ≡ true → (met ≡ true) ⊎ (is_sequence (text_of (take n (drop at bytes)) behind) ≡ true))
@@ -294,36 +310,18 @@ walked_next us z bytes at n behind met met' old mid new w some f zeros more step
           let tail : text_of (drop n b) z ≡ joined others = sym (drop-append-le n b (replicate z 0) k.1) ∙ ap (drop n) text ∙ drop_at u (joined others) n (sym k.0) in
           let left : drop n b ≡ drop (at + n) bytes = drop-drop n at bytes in
           let unit : text_of (take n b) behind ≡ u = kept_unit b z n behind u others own tail units.3 zeros in
-          record {
-            done = w.done ++ u ∷ [];
-            rest = others;
-            are = w.are ∙ ap (λ (l : Units). w.done ++ l) rest ∙ sym (append_assoc w.done (u ∷ []) others);
-            units = units.3;
-            within = omega (arith, k.1, size, some);
-            going = λ lt. (
-              ap (λ (l : List ℕ). text_of l z) (sym left) ∙ tail,
-              subst (λ (l : List ℕ). IsZeroEnded l z) left (ended_next b z n g.1 (omega (arith, lt, size, length-drop n b, some))),
-            );
-            over = λ le.
-                let none : drop n b ≡ [] = drop_all n b (omega (arith, le, size, some)) in
-                none_in_zeros others z units.3 (sym tail ∙ ap (λ (l : List ℕ). text_of l z) none);
-            seen = seen_more w.done u met met' w.seen (subst (λ (x : List ℕ). met' ≡ true → (met ≡ true) ⊎ (is_sequence x ≡ true)) unit more);
-            heads = λ before h. subst (λ (l : Units). IsHeads l new) (append_assoc before w.done (u ∷ [])) (subst (λ (x : List ℕ). IsHeads ((before ++ w.done) ++ x ∷ []) new) unit (step (before ++ w.done) (w.heads before h)));
-          }
+          walked_on us z bytes at n behind met met' old mid new w u others rest units.3 unit more step (omega (arith, k.1, size, some))
+          (λ lt. (
+            ap (λ (l : List ℕ). text_of l z) (sym left) ∙ tail,
+            subst (λ (l : List ℕ). IsZeroEnded l z) left (ended_next b z n g.1 (omega (arith, lt, size, length-drop n b, some))),
+          ))
+          (λ le.
+          let none : drop n b ≡ [] = drop_all n b (omega (arith, le, size, some)) in
+          none_in_zeros others z units.3 (sym tail ∙ ap (λ (l : List ℕ). text_of l z) none))
       | inr k ↦
           let all : take n b ≡ b = take_all n b (omega (arith, k.0)) in
           let unit : text_of (take n b) behind ≡ u = ap (λ (l : List ℕ). text_of l behind) all ∙ ap (λ (m : ℕ). text_of b m) (last_zeros b z n behind k.0 zeros) ∙ sym k.2 in
-          record {
-            done = w.done ++ u ∷ [];
-            rest = others;
-            are = w.are ∙ ap (λ (l : Units). w.done ++ l) rest ∙ sym (append_assoc w.done (u ∷ []) others);
-            units = units.3;
-            within = omega (arith, k.0, size, some);
-            going = λ lt. absurd (omega (arith, lt, k.0, size, some));
-            over = λ le. k.1;
-            seen = seen_more w.done u met met' w.seen (subst (λ (x : List ℕ). met' ≡ true → (met ≡ true) ⊎ (is_sequence x ≡ true)) unit more);
-            heads = λ before h. subst (λ (l : Units). IsHeads l new) (append_assoc before w.done (u ∷ [])) (subst (λ (x : List ℕ). IsHeads ((before ++ w.done) ++ x ∷ []) new) unit (step (before ++ w.done) (w.heads before h)));
-          }
+          walked_on us z bytes at n behind met met' old mid new w u others rest units.3 unit more step (omega (arith, k.0, size, some)) (λ lt. absurd (omega (arith, lt, k.0, size, some))) (λ le. k.1)
     ]
   where
     last_zeros : (b : List ℕ) (z n behind : ℕ) → n ≡ length b → ((n ≡ length b) × (behind ≡ z)) ⊎ ((n ≡ length b → ⊥) × (behind ≡ 0)) → behind ≡ z

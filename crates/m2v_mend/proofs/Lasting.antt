@@ -83,9 +83,6 @@ short_tail (a ∷ b ∷ c ∷ w) lt = absurd (omega (arith, lt))
 pub tail_by : (w : List ℕ) → 3 ≤ length w
     → ends_open w ≡ (nat_eq (slice_index w (length w - 3)) 0 && (nat_eq (slice_index w (length w - 2)) 0 && nat_eq (slice_index w (length w - 1)) 1))
 unfolding ends_open
-tail_by [] le = absurd (omega (arith, le))
-tail_by (a ∷ []) le = absurd (omega (arith, le))
-tail_by (a ∷ b ∷ []) le = absurd (omega (arith, le))
 tail_by (a ∷ b ∷ c ∷ []) le = or-false (nat_eq a 0 && (nat_eq b 0 && nat_eq c 1))
 tail_by (a ∷ b ∷ c ∷ d ∷ w) le =
     let l = b ∷ c ∷ d ∷ w in
@@ -94,3 +91,4 @@ tail_by (a ∷ b ∷ c ∷ d ∷ w) le =
     let z : length (a ∷ l) - 1 ≡ suc (length l - 1) = omega arith in
     tail_by (b ∷ c ∷ d ∷ w) (omega arith)
     ∙ (λ i. nat_eq (slice_index (a ∷ l) (sym x i)) 0 && (nat_eq (slice_index (a ∷ l) (sym y i)) 0 && nat_eq (slice_index (a ∷ l) (sym z i)) 1))
+tail_by _ le = absurd (omega (arith, le))

@@ -59,8 +59,13 @@ by_growth : (phase : Phase) (j : List ℕ) (vs : Units) (u : List ℕ) (us : Uni
     → Lie start at (grouped phase (j ++ joined (vs ++ u ∷ [])) us) → Lie start at (grouped phase ((j ++ joined vs) ++ u) us)
 by_growth phase j vs u us start at h = subst (λ (x : List ℕ). Lie start at (grouped phase x us)) (sym (grown j vs u)) h
 
-in_headers : (u : List ℕ) (us : Units) (j : List ℕ) (vs : Units) (start at : ℕ) → At j vs (u ∷ us) → start + length j ≡ at → Later us
-    → Lie start at (grouped Headers (j ++ joined vs) (u ∷ us))
+-- what then holds behind a unit in a phase
+abbrev InPhase : Phase → Type 0
+InPhase phase =
+    (u : List ℕ) (us : Units) (j : List ℕ) (vs : Units) (start at : ℕ) → At j vs (u ∷ us) → start + length j ≡ at → Later us
+    → Lie start at (grouped phase (j ++ joined vs) (u ∷ us))
+
+in_headers : InPhase Headers
 unfolding grouped
 in_headers u us j vs start at h sum later =
     elim (cases_Bool (is_end (value_of u))) [
@@ -73,8 +78,7 @@ in_headers u us j vs start at h sum later =
           rw off (by_growth phase j vs u us start at (later phase j (vs ++ u ∷ []) start at (open_after (value_of u) (joined (vs ++ u ∷ [])) (long_more vs u le)) (at_more j vs u us h off) sum))
     ]
 
-in_picture : (u : List ℕ) (us : Units) (j : List ℕ) (vs : Units) (start at : ℕ) → At j vs (u ∷ us) → start + length j ≡ at → Later us
-    → Lie start at (grouped Picture (j ++ joined vs) (u ∷ us))
+in_picture : InPhase Picture
 unfolding grouped
 in_picture u us j vs start at h sum later =
     elim (cases_Bool (is_end (value_of u))) [

@@ -92,11 +92,8 @@ next_cut e later are =
     cuts_is (drop 4 e ++ joined later) (drop 4 e) later cuts
   where
     dropped : (e rest : List ℕ) (i : ℕ) → 4 ≤ length e → drop (suc (suc (suc (suc i)))) (e ++ rest) ≡ drop i (drop 4 e ++ rest)
-    dropped [] rest i le = absurd (omega (arith, le))
-    dropped (a ∷ []) rest i le = absurd (omega (arith, le))
-    dropped (a ∷ b ∷ []) rest i le = absurd (omega (arith, le))
-    dropped (a ∷ b ∷ c ∷ []) rest i le = absurd (omega (arith, le))
     dropped (a ∷ b ∷ c ∷ v ∷ w) rest i le = refl
+    dropped _ rest i le = absurd (omega (arith, le))
 
 -- the stretches behind an end code are those of the text that follows it
 same_next : (e : List ℕ) (later : Units) (at place : ℕ) (before : Units) → AreUnits (e ∷ later) → at + length (drop 4 e) ≡ place + length e

@@ -34,13 +34,8 @@ typed_six (suc n) a b c d e f r w off on is = rw (on, is) refl
 
 pub lowered_typed : (u : List ℕ) (z by r : ℕ) → (by ≡ 0 → ⊥) → 6 ≤ length u → is_typed (text_of u z) ≡ true → r ≡ ((4 * get_or u 4 0 + get_or u 5 0 / 64) % 1024 + 1024 - by) % 1024
     → text_of (lower_to r u) z ≡ lowered_unit by (text_of u z)
-lowered_typed [] z by r off le on is = absurd (omega arith)
-lowered_typed (a ∷ []) z by r off le on is = absurd (omega arith)
-lowered_typed (a ∷ b ∷ []) z by r off le on is = absurd (omega arith)
-lowered_typed (a ∷ b ∷ c ∷ []) z by r off le on is = absurd (omega arith)
-lowered_typed (a ∷ b ∷ c ∷ d ∷ []) z by r off le on is = absurd (omega arith)
-lowered_typed (a ∷ b ∷ c ∷ d ∷ e ∷ []) z by r off le on is = absurd (omega arith)
 lowered_typed (a ∷ b ∷ c ∷ d ∷ e ∷ f ∷ w) z by r off le on is = typed_six by a b c d e f r (w ++ replicate z 0) off on is
+lowered_typed _ z by r off le on is = absurd (omega arith)
 
 -- the last byte behind others
 last_of : (p : List ℕ) (x : ℕ) (w : List ℕ) → get_or (p ++ x ∷ w) (length (p ++ x ∷ w) - 1) 0 ≡ get_or (x ∷ w) (length w) 0
@@ -57,34 +52,22 @@ typed_byte u h =
     leb-true 1 (type_of u) c.0
 
 pub lowered_ended : (u : List ℕ) (z r : ℕ) → 6 ≤ length u → is_typed (text_of u z) ≡ true → IsZeroEnded u z → IsZeroEnded (lower_to r u) z
-lowered_ended [] z r le on h pos = absurd (omega arith)
-lowered_ended (a ∷ []) z r le on h pos = absurd (omega arith)
-lowered_ended (a ∷ b ∷ []) z r le on h pos = absurd (omega arith)
-lowered_ended (a ∷ b ∷ c ∷ []) z r le on h pos = absurd (omega arith)
-lowered_ended (a ∷ b ∷ c ∷ d ∷ []) z r le on h pos = absurd (omega arith)
-lowered_ended (a ∷ b ∷ c ∷ d ∷ e ∷ []) z r le on h pos = absurd (omega arith)
 lowered_ended (a ∷ b ∷ c ∷ d ∷ e ∷ f ∷ []) z r le on h pos =
     let some : 1 ≤ f / 8 % 8 = typed_byte (text_of (a ∷ b ∷ c ∷ d ∷ e ∷ f ∷ []) z) on in
     let none : f ≡ 0 = (h pos).1 in
     absurd (omega (arith, some, none))
 lowered_ended (a ∷ b ∷ c ∷ d ∷ e ∷ f ∷ x ∷ w) z r le on h pos = (omega arith, last_of (a ∷ b ∷ c ∷ d ∷ (r / 4) ∷ (64 * (r % 4) + f % 64) ∷ []) x w ∙ sym (last_of (a ∷ b ∷ c ∷ d ∷ e ∷ f ∷ []) x w) ∙ (h pos).1)
+lowered_ended _ z r le on h pos = absurd (omega arith)
 
 -- ---- group headers
 
 pub marked_on : (u : List ℕ) (z b : ℕ) → get_or u 3 0 ≡ 0xB8 → 8 ≤ length u → b ≡ with_broken_link (get_or u 7 0) → text_of (set u 7 b) z ≡ marked_unit (text_of u z)
 unfolding marked_unit
-marked_on [] z b on le is = absurd (omega arith)
-marked_on (a ∷ []) z b on le is = absurd (omega arith)
-marked_on (a ∷ s ∷ []) z b on le is = absurd (omega arith)
-marked_on (a ∷ s ∷ c ∷ []) z b on le is = absurd (omega arith)
-marked_on (a ∷ s ∷ c ∷ d ∷ []) z b on le is = absurd (omega arith)
-marked_on (a ∷ s ∷ c ∷ d ∷ e ∷ []) z b on le is = absurd (omega arith)
-marked_on (a ∷ s ∷ c ∷ d ∷ e ∷ f ∷ []) z b on le is = absurd (omega arith)
-marked_on (a ∷ s ∷ c ∷ d ∷ e ∷ f ∷ g ∷ []) z b on le is = absurd (omega arith)
 marked_on (a ∷ s ∷ c ∷ d ∷ e ∷ f ∷ g ∷ h ∷ w) z b on le is =
     let long : nat_le 8 (length (a ∷ s ∷ c ∷ d ∷ e ∷ f ∷ g ∷ h ∷ (w ++ replicate z 0))) ≡ true = le-leb 8 _ (omega arith) in
     let group : nat_eq d 0xB8 ≡ true = eq-eqb d 0xB8 on in
     rw (group, long, is) refl
+marked_on _ z b on le is = absurd (omega arith)
 
 unmarked : (u : List ℕ) (x y : Bool) → is_group u ≡ x → nat_le 8 (length u) ≡ y → (x && y) ≡ false → u ≡ marked_unit u
 unfolding marked_unit

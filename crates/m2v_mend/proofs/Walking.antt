@@ -8,7 +8,7 @@ use Rattle.m2v_model.specs.declared.state.Open.{Open}
 use Rattle.m2v_model.specs.declared.state.State.{State}
 use Rattle.m2v_model.specs.Units.{Units}
 use Rattle.m2v_model.specs.States.{is_frame, is_b, one_anchor_more}
-use Rattle.m2v_model.specs.Streams.{Part, Sofar, sequence, group, picture, matrices, slice, unread_slice, skipped_unit, ending, over, after, value_of, units_from}
+use Rattle.m2v_model.specs.Streams.{Part, Sofar, sequence, group, picture, ending, over, after, value_of, units_from}
 use Rattle.m2v_model.specs.Pictures.{Store, Picture, Pictures, Events, sequence_header, group_header, picture_of, pictures_in, closed, told_by, store_after, events_from}
 use Rattle.m2v_model.specs.Pieces.{begins_piece, picture_units}
 use Rattle.m2v_model.specs.PieceNotes.{PieceNotes, note_of, first_note, notes_of}
@@ -53,12 +53,9 @@ told_end : (st : State) (store : Store) (p : Part) (es : Events) → AllEndSo (p
 told_end st store (sequence s) es h = subst (λ (l : Events). AllEndSo (pictures_in l)) (sym (append_assoc (closed st.picture store) (sequence_header s ∷ []) es)) (closed_end st.picture store (sequence_header s ∷ es) h)
 told_end st store (group g) es h = subst (λ (l : Events). AllEndSo (pictures_in l)) (sym (append_assoc (closed st.picture store) (group_header g ∷ []) es)) (closed_end st.picture store (group_header g ∷ es) h)
 told_end st store (picture info extension) es h = closed_end st.picture store es h
-told_end st store (matrices m) es h = h
-told_end st store (slice row x) es h = h
-told_end st store (unread_slice row u) es h = h
-told_end st store (skipped_unit u) es h = h
 told_end st store ending es h = closed_end st.picture store es h
 told_end st store over es h = closed_end st.picture store es h
+told_end st store _ es h = h
 
 events_end : (st : State) (store : Store) (ps : List Part) → AllEndSo (pictures_in (events_from st store ps))
 unfolding events_from

@@ -1,3 +1,6 @@
+ghost use Rattle.std.specs.Prelude.{◌≡◌};
+ghost use Rattle.m2v_mend.specs.declared.answer.MendError.TheVariants as errors;
+
 use m2v_decode::{Fault, Memory};
 
 /// What is answered to a text that is mended.
@@ -39,9 +42,6 @@ pub enum MendError {
 }
 
 impl From<Memory> for MendError {
-    ghost use Rattle.std.specs.Prelude.{◌≡◌};
-    ghost use Rattle.m2v_mend.specs.declared.answer.MendError.TheVariants as errors;
-
     ghost from_gives = { λ e f. f ≡ errors.Memory };
 
     fn from(_: Memory) -> MendError {

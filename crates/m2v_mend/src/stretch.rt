@@ -31,8 +31,7 @@ fn answered(e: DecodeError) -> MendError
         DecodeError::TooLong => MendError::TooLong,
         DecodeError::PictureTooLarge => MendError::PictureTooLarge,
         DecodeError::Memory => MendError::Memory,
-        DecodeError::Write => unreachable!(),
-        DecodeError::Stream(_) => unreachable!(),
+        _ => unreachable!(),
     }
 }
 
