@@ -45,11 +45,8 @@ pub fn arrival_rule(rate: u64, before: &Option<Arrival>, p: &CodedPicture) -> Op
     }
     let have = 1800 * bits_between(d, p);
     let need = u128::from(rate) * time_between(d, p);
-    let remark = Remark {
-        rule: 29,
-        element: Element::ArrivalRate,
-        have,
-        need,
-    };
-    judge(have < need, remark)
+    judge(
+        have < need,
+        Remark::of(29, Element::ArrivalRate, have, need),
+    )
 }

@@ -43,12 +43,7 @@ fn is_doubtful_size(width: u64, height: u64) -> bool
 fn wrong_size(rule: u8, s: &Sequence) -> Remark
     ensures { result ≡ remark rule elements.Size (size_of s.now) 7200576 }
 {
-    Remark {
-        rule,
-        element: Element::Size,
-        have: size_of(s),
-        need: 7_200_576,
-    }
+    Remark::of(rule, Element::Size, size_of(s), 7_200_576)
 }
 
 /// The sizes of Main level.
@@ -74,28 +69,16 @@ fn dvb_size_warning(s: &Sequence) -> Option<Remark>
     judge(!is_doubtful_size(s.width(), s.height()), wrong_size(85, s))
 }
 
-/// The aspect ratio.
-#[tactic(auto, unfolding(crate::specs::BroadcastRules::dvb_aspect_rule))]
-fn dvb_aspect_rule(s: &Sequence) -> Option<Remark>
-    ensures { told_at result ≡ dvb_aspect_rule s.now }
-{
-    let aspect = u128::from(s.info.aspect);
-    within(82, Element::AspectRatioInformation, aspect, 2, 4)
-}
-
 /// Main level or High level.
 #[tactic(auto, unfolding(crate::specs::BroadcastRules::dvb_level_warning))]
 fn dvb_level_warning(s: &Sequence) -> Option<Remark>
     ensures { told_at result ≡ dvb_level_warning s.now }
 {
     let code = s.extension.profile_and_level;
-    let remark = Remark {
-        rule: 83,
-        element: Element::ProfileAndLevelIndication,
-        have: u128::from(code),
-        need: 72,
-    };
-    judge(code == 72 || code == 68, remark)
+    judge(
+        code == 72 || code == 68,
+        Remark::of(83, Element::ProfileAndLevelIndication, u128::from(code), 72),
+    )
 }
 
 /// 25 or 50 Hz, above Main level.
@@ -107,23 +90,22 @@ fn dvb_rate_warning(s: &Sequence) -> Option<Remark>
         return None;
     }
     let code = s.info.frame_rate_code;
-    let remark = Remark {
-        rule: 84,
-        element: Element::FrameRateCode,
-        have: u128::from(code),
-        need: 3,
-    };
-    judge(code == 3 || code == 6, remark)
+    judge(
+        code == 3 || code == 6,
+        Remark::of(84, Element::FrameRateCode, u128::from(code), 3),
+    )
 }
 
 /// The rules of broadcasts at 25 Hz on a sequence header (80 to 82) and the warnings (83 to 85), by number.
+#[tactic(auto, unfolding(crate::specs::BroadcastRules::dvb_aspect_rule))]
 pub fn dvb_rules(s: &Sequence) -> [Option<Remark>; 6]
     ensures { told_by result ≡ dvb_remarks s.now }
 {
+    let aspect = u128::from(s.info.aspect);
     [
         dvb_rate_rule(s),
         dvb_size_rule(s),
-        dvb_aspect_rule(s),
+        within(82, Element::AspectRatioInformation, aspect, 2, 4),
         dvb_level_warning(s),
         dvb_rate_warning(s),
         dvb_size_warning(s),
@@ -177,13 +159,10 @@ fn atsc_size_rule(s: &Sequence) -> Option<Remark>
 {
     let height = s.height();
     let need = 10_000 * u128::from(atsc_width(height)) + u128::from(atsc_height(height));
-    let remark = Remark {
-        rule: 90,
-        element: Element::Size,
-        have: size_of(s),
-        need,
-    };
-    judge(is_atsc_size(s.width(), height), remark)
+    judge(
+        is_atsc_size(s.width(), height),
+        Remark::of(90, Element::Size, size_of(s), need),
+    )
 }
 
 /// Square samples or 16:9.
@@ -191,13 +170,15 @@ fn atsc_size_rule(s: &Sequence) -> Option<Remark>
 fn square_or_wide(aspect: u8) -> Option<Remark>
     ensures { told_at result ≡ square_or_wide aspect }
 {
-    let remark = Remark {
-        rule: 91,
-        element: Element::AspectRatioInformation,
-        have: u128::from(aspect),
-        need: if aspect < 3 { 1 } else { 3 },
-    };
-    judge(aspect == 1 || aspect == 3, remark)
+    judge(
+        aspect == 1 || aspect == 3,
+        Remark::of(
+            91,
+            Element::AspectRatioInformation,
+            u128::from(aspect),
+            if aspect < 3 { 1 } else { 3 },
+        ),
+    )
 }
 
 /// The aspect ratio of a size.
@@ -258,13 +239,8 @@ fn progressive_rate_rule(s: &Sequence) -> Option<Remark>
     ensures { told_at result ≡ progressive_rate_rule s.now }
 {
     let code = s.info.frame_rate_code;
-    let need = nearest_rate(most_progressive(s.height()), code);
-    equal(
-        92,
-        Element::FrameRateCode,
-        u128::from(code),
-        u128::from(need),
-    )
+    let need = u128::from(nearest_rate(most_progressive(s.height()), code));
+    equal(92, Element::FrameRateCode, u128::from(code), need)
 }
 
 /// The frame rate.
@@ -284,15 +260,9 @@ fn atsc_rate_rule(s: &Sequence) -> Option<Remark>
 fn atsc_form_rule(s: &Sequence) -> Option<Remark>
     ensures { told_at result ≡ atsc_form_rule s.now }
 {
-    let remark = Remark {
-        rule: 92,
-        element: Element::ProgressiveSequence,
-        have: 0,
-        need: 1,
-    };
     judge(
         s.height() != 720 || s.extension.progressive_sequence,
-        remark,
+        Remark::of(92, Element::ProgressiveSequence, 0, 1),
     )
 }
 
@@ -329,11 +299,8 @@ pub fn atsc_rules(s: &Sequence) -> [Option<Remark>; 6]
 pub fn atsc_delay_warning(delay: u32) -> Option<Remark>
     ensures { told_at result ≡ atsc_delay_warning delay }
 {
-    let remark = Remark {
-        rule: 95,
-        element: Element::VbvDelay,
-        have: u128::from(delay),
-        need: 45_000,
-    };
-    judge(delay <= 45_000 || delay == 65_535, remark)
+    judge(
+        delay <= 45_000 || delay == 65_535,
+        Remark::of(95, Element::VbvDelay, u128::from(delay), 45_000),
+    )
 }

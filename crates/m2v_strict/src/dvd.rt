@@ -51,13 +51,15 @@ fn is_disc_size(s: &Sequence) -> bool
 fn size_rule(s: &Sequence) -> Option<Remark>
     ensures { told_at result ≡ size_rule s.now }
 {
-    let remark = Remark {
-        rule: 60,
-        element: Element::Size,
-        have: size_of(s),
-        need: 7_200_000 + u128::from(full_height(s.info.frame_rate_code)),
-    };
-    judge(is_disc_size(s), remark)
+    judge(
+        is_disc_size(s),
+        Remark::of(
+            60,
+            Element::Size,
+            size_of(s),
+            7_200_000 + u128::from(full_height(s.info.frame_rate_code)),
+        ),
+    )
 }
 
 /// The rate of frames, the aspect ratio, the rate of bits, the profile and the level.
@@ -93,15 +95,9 @@ fn form_warning(s: &Sequence) -> [Option<Remark>; 2]
 fn wide_warning(s: &Sequence) -> Option<Remark>
     ensures { told_at result ≡ wide_warning s.now }
 {
-    let remark = Remark {
-        rule: 71,
-        element: Element::AspectRatioInformation,
-        have: 3,
-        need: 2,
-    };
     judge(
         s.width() == 720 || s.width() == 704 || s.info.aspect != 3,
-        remark,
+        Remark::of(71, Element::AspectRatioInformation, 3, 2),
     )
 }
 
@@ -131,22 +127,14 @@ pub fn like_warning(first: &Option<Sequence>, s: &Sequence) -> [Option<Remark>; 
     let Some(first) = first else {
         return [None, None, None];
     };
-    let (code, aspect) = (s.info.frame_rate_code, s.info.aspect);
-    let (first_code, first_aspect) = (first.info.frame_rate_code, first.info.aspect);
+    let code = u128::from(s.info.frame_rate_code);
+    let first_code = u128::from(first.info.frame_rate_code);
+    let aspect = u128::from(s.info.aspect);
+    let first_aspect = u128::from(first.info.aspect);
     [
         equal(70, Element::Size, size_of(s), size_of(first)),
-        equal(
-            70,
-            Element::FrameRateCode,
-            u128::from(code),
-            u128::from(first_code),
-        ),
-        equal(
-            70,
-            Element::AspectRatioInformation,
-            u128::from(aspect),
-            u128::from(first_aspect),
-        ),
+        equal(70, Element::FrameRateCode, code, first_code),
+        equal(70, Element::AspectRatioInformation, aspect, first_aspect),
     ]
 }
 
@@ -155,13 +143,7 @@ pub fn like_warning(first: &Option<Sequence>, s: &Sequence) -> [Option<Remark>; 
 pub fn headed_warning(headed: bool) -> Option<Remark>
     ensures { told_at result ≡ headed_warning headed }
 {
-    let remark = Remark {
-        rule: 67,
-        element: Element::SequenceHeader,
-        have: 0,
-        need: 1,
-    };
-    judge(headed, remark)
+    judge(headed, Remark::of(67, Element::SequenceHeader, 0, 1))
 }
 
 impl Runs {
@@ -243,14 +225,11 @@ fn b_frames_warning(before: &Runs, p: &CodedPicture) -> Option<Remark>
 fn first_group_warning(p: &CodedPicture) -> [Option<Remark>; 2]
     ensures { told_by result ≡ first_group_warning p.now }
 {
-    let remark = Remark {
-        rule: 69,
-        element: Element::FirstGroup,
-        have: 0,
-        need: 1,
-    };
     [
-        judge(p.number != 0 || p.first_in_group, remark),
+        judge(
+            p.number != 0 || p.first_in_group,
+            Remark::of(69, Element::FirstGroup, 0, 1),
+        ),
         unset(69, Element::Dropped, p.note.dropped),
     ]
 }

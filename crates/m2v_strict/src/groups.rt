@@ -43,13 +43,10 @@ fn passes_over(g: &GroupInfo) -> bool
 fn passing_rule(g: &GroupInfo) -> Option<Remark>
     ensures { told_at result ≡ passing_rule g.now }
 {
-    let remark = Remark {
-        rule: 26,
-        element: Element::TimeCodePictures,
-        have: u128::from(g.pictures),
-        need: 2,
-    };
-    judge(!passes_over(g) || g.pictures >= 2, remark)
+    judge(
+        !passes_over(g) || g.pictures >= 2,
+        Remark::of(26, Element::TimeCodePictures, u128::from(g.pictures), 2),
+    )
 }
 
 /// The warning that the group before is missing (56).

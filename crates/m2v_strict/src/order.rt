@@ -12,12 +12,7 @@ use m2v_check::{CodedPicture, is_b};
 fn out_of_order(value: u128) -> Remark
     ensures { result ≡ out_of_order value }
 {
-    Remark {
-        rule: 22,
-        element: Element::HeaderOrder,
-        have: value,
-        need: 0,
-    }
+    Remark::of(22, Element::HeaderOrder, value, 0)
 }
 
 impl Leading {
@@ -59,13 +54,10 @@ fn late_header_rule(before: &Leading) -> Option<Remark>
 pub fn first_type_rule(headed: bool, p: &CodedPicture) -> Option<Remark>
     ensures { told_at result ≡ first_type_rule headed p.now }
 {
-    let remark = Remark {
-        rule: 23,
-        element: Element::PictureCodingType,
-        have: 3,
-        need: 1,
-    };
-    judge(!(headed && is_b(&p.note.info)), remark)
+    judge(
+        !(headed && is_b(&p.note.info)),
+        Remark::of(23, Element::PictureCodingType, 3, 1),
+    )
 }
 
 /// A sequence end code ends the sequence.
@@ -73,13 +65,7 @@ pub fn first_type_rule(headed: bool, p: &CodedPicture) -> Option<Remark>
 fn end_code_warning(closed: bool) -> Option<Remark>
     ensures { told_at result ≡ end_code_warning closed }
 {
-    let remark = Remark {
-        rule: 53,
-        element: Element::SequenceEndCode,
-        have: 0,
-        need: 1,
-    };
-    judge(closed, remark)
+    judge(closed, Remark::of(53, Element::SequenceEndCode, 0, 1))
 }
 
 /// The rule at the end of a sequence (22), behind these headers since its last picture, and the warning (53); `closed` says

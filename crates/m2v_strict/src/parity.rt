@@ -87,13 +87,15 @@ pub fn parity_warning(last: Option<bool>, f: &ShownFrame) -> Option<Remark>
     let Some(last) = last else {
         return None;
     };
-    let remark = Remark {
-        rule: 58,
-        element: Element::FieldParity,
-        have: number_of(f.first_top),
-        need: number_of(!f.first_top),
-    };
-    judge(differ(last, f.first_top), remark)
+    judge(
+        differ(last, f.first_top),
+        Remark::of(
+            58,
+            Element::FieldParity,
+            number_of(f.first_top),
+            number_of(!f.first_top),
+        ),
+    )
 }
 
 impl Parity {

@@ -43,13 +43,7 @@ fn low_delay_rule(p: &CodedPicture) -> Option<Remark>
     if !p.sequence.extension.low_delay {
         return None;
     }
-    let remark = Remark {
-        rule: 27,
-        element: Element::LowDelay,
-        have: 3,
-        need: 2,
-    };
-    judge(!is_b(&p.note.info), remark)
+    judge(!is_b(&p.note.info), Remark::of(27, Element::LowDelay, 3, 2))
 }
 
 /// The rate is constant in all pictures, or in none.
@@ -60,13 +54,10 @@ fn delay_rule(constant: bool, delay: u32) -> Option<Remark>
     if !constant {
         return equal(28, Element::VbvDelay, u128::from(delay), 65_535);
     }
-    let remark = Remark {
-        rule: 28,
-        element: Element::VbvDelay,
-        have: 65_535,
-        need: 65_534,
-    };
-    judge(delay != VARIABLE, remark)
+    judge(
+        delay != VARIABLE,
+        Remark::of(28, Element::VbvDelay, 65_535, 65_534),
+    )
 }
 
 /// Forward vectors are used.
@@ -181,14 +172,11 @@ fn prediction_rule(p: &CodedPicture) -> Option<Remark>
     ensures { told_at result ≡ prediction_rule p.now }
 {
     let e = &p.note.extension;
-    let remark = Remark {
-        rule: 34,
-        element: Element::FramePredFrameDct,
-        have: 0,
-        need: 1,
-    };
     let looked = is_frame(e) && e.progressive_frame && !p.sequence.extension.progressive_sequence;
-    judge(!looked || e.frame_pred_frame_dct, remark)
+    judge(
+        !looked || e.frame_pred_frame_dct,
+        Remark::of(34, Element::FramePredFrameDct, 0, 1),
+    )
 }
 
 /// top_field_first in a progressive sequence.

@@ -1,6 +1,6 @@
 //! What a rule remarks of a header.
 ghost use Rattle.std.specs.Prelude.{◌≡◌, nat_eq};
-ghost use Rattle.m2v_strict.specs.Remarks.{is_warning, number_of, told_at, judge, equal, at_most, within, unset};
+ghost use Rattle.m2v_strict.specs.Remarks.{remark, is_warning, number_of, told_at, judge, equal, at_most, within, unset};
 
 use crate::element::Element;
 
@@ -12,6 +12,20 @@ pub struct Remark {
     pub element: Element,
     pub have: u128,
     pub need: u128,
+}
+
+impl Remark {
+    /// What a rule remarks of an element.
+    pub(crate) fn of(rule: u8, element: Element, have: u128, need: u128) -> Remark
+        ensures { result ≡ remark rule element have need }
+    {
+        Remark {
+            rule,
+            element,
+            have,
+            need,
+        }
+    }
 }
 
 /// The number of a warning; others are those of rules.
@@ -39,26 +53,14 @@ pub(crate) fn judge(holds: bool, remark: Remark) -> Option<Remark>
 pub(crate) fn equal(rule: u8, element: Element, have: u128, need: u128) -> Option<Remark>
     ensures { told_at result ≡ equal rule element have need }
 {
-    let remark = Remark {
-        rule,
-        element,
-        have,
-        need,
-    };
-    judge(have == need, remark)
+    judge(have == need, Remark::of(rule, element, have, need))
 }
 
 /// A rule that an element is at most what is needed.
 pub(crate) fn at_most(rule: u8, element: Element, have: u128, need: u128) -> Option<Remark>
     ensures { told_at result ≡ at_most rule element have need }
 {
-    let remark = Remark {
-        rule,
-        element,
-        have,
-        need,
-    };
-    judge(have <= need, remark)
+    judge(have <= need, Remark::of(rule, element, have, need))
 }
 
 /// A rule that an element lies from one bound to another; the nearer one is needed.
@@ -72,12 +74,7 @@ pub(crate) fn within(
     ensures { told_at result ≡ within rule element have low high }
 {
     if have < low {
-        return Some(Remark {
-            rule,
-            element,
-            have,
-            need: low,
-        });
+        return Some(Remark::of(rule, element, have, low));
     }
     at_most(rule, element, have, high)
 }

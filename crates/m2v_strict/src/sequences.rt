@@ -147,13 +147,10 @@ fn is_broadcast(rules: RuleSet) -> bool
 fn aspect_warning(rules: RuleSet, s: &Sequence) -> Option<Remark>
     ensures { told_at result ≡ aspect_warning rules s.now }
 {
-    let remark = Remark {
-        rule: 50,
-        element: Element::AspectRatioInformation,
-        have: 4,
-        need: 3,
-    };
-    judge(is_broadcast(rules) || s.info.aspect != 4, remark)
+    judge(
+        is_broadcast(rules) || s.info.aspect != 4,
+        Remark::of(50, Element::AspectRatioInformation, 4, 3),
+    )
 }
 
 /// Sizes that no player cuts evenly.

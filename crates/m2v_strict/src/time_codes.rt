@@ -112,13 +112,15 @@ fn continuity_warning(
         return None;
     };
     let pictures = time_between(rate, last, g);
-    let remark = Remark {
-        rule: 55,
-        element: Element::TimeCode,
-        have: u128::from(pictures),
-        need: u128::from(fields / 2),
-    };
-    judge(goes_on(pictures, fields), remark)
+    judge(
+        goes_on(pictures, fields),
+        Remark::of(
+            55,
+            Element::TimeCode,
+            u128::from(pictures),
+            u128::from(fields / 2),
+        ),
+    )
 }
 
 /// The warnings on a group header's time code (55), in a sequence of this frame_rate_code, behind the last group header and the
