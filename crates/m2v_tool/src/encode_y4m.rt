@@ -1,46 +1,21 @@
-ghost use Rattle.std.specs.Prelude.{◌≡◌, ◌≤◌, length, map, option_map, string_bytes, IfOk, IsTrue, IsFalse};
-ghost use Rattle.clap.specs.Simple.{app_of};
+ghost use Rattle.std.specs.Prelude.{◌≡◌, ◌≤◌, length, IsTrue, IsFalse};
 ghost use Rattle.m2v_port.specs.Ends.{change, SinkStays};
 ghost use Rattle.m2v_y4m.specs.Rules.{IsHeader};
 ghost use Rattle.m2v_y4m.specs.Sources.{most_ahead};
-ghost use Rattle.m2v_tool.specs.Endings.{IsReport};
 ghost use Rattle.m2v_tool.specs.EncodeWords.{words_of};
-ghost use Rattle.m2v_tool.specs.Y4mWords.{with_header, y4m_app, y4m_meant};
-ghost use Rattle.m2v_tool.specs.Y4mCoding.{FramesCome, Y4mComes, read_behind, unread_ending, y4m_ending};
+ghost use Rattle.m2v_tool.specs.Runs.{worked};
+ghost use Rattle.m2v_tool.specs.Y4mWords.{with_header};
+ghost use Rattle.m2v_tool.specs.Y4mCoding.{FramesCome, Y4mComes, read_behind};
 
-use crate::encode::{EncodeOutcome, EncodeWords, encoded, meant_of, with_options};
-use crate::report::{Report, no_memory, read_fault};
-use crate::unpack::y4m_fault;
-use crate::words::{required_option, simple, taken, with};
-use clap::Command;
+use crate::encode::{EncodeOutcome, EncodeWords, encoded};
 use m2v_board::Gate;
 use m2v_make::encode::EncodeError;
 use m2v_port::{NamedSink, Sink, Source};
 use m2v_set::Settings;
 use m2v_y4m::{Y4mError, Y4mFault, Y4mHeader, Y4mSource, Y4mText};
-use std::alloc::{AllocError, Global};
+use std::alloc::Global;
 use std::sync::Wait;
 use std::thread::Threads;
-
-/// The options behind `encode-y4m`; the sizes and the rate come from the text.
-fn y4m_command<'a>(alloc: Global) -> Result<Command<'a>, AllocError>
-    ensures { IfOk result (λ c. app_of c ≡ y4m_app) }
-{
-    let command = simple(alloc, "encode-y4m");
-    let command = with(command, required_option(alloc, "bits"))?;
-    let command = with(command, required_option(alloc, "buffer"))?;
-    with_options(alloc, command)
-}
-
-/// What the words behind `encode-y4m` mean, where they are taken; the sizes and the rate are 0 in it.
-pub(crate) fn y4m_words(alloc: Global, words: &[String]) -> Result<Option<EncodeWords>, AllocError>
-    ensures { IfOk result (λ w. option_map words_of w ≡ y4m_meant (map string_bytes words.now)) }
-{
-    match taken(y4m_command(alloc)?, words)? {
-        Some(matches) => meant_of(alloc, &matches),
-        None => Ok(None),
-    }
-}
 
 /// What came of `encode-y4m`.
 #[derive(Clone, Copy, Debug, PartialEq, Eq)]
@@ -51,32 +26,6 @@ pub enum Y4mOutcome {
     Encoded(EncodeOutcome),
     /// It was read, and coding stopped at the first fault of the text.
     Broken(Y4mFault),
-}
-
-impl Y4mOutcome {
-    /// Its status and its line on report.
-    #[tactic(auto, unfolding(crate::specs::Y4mCoding::y4m_ending))]
-    pub(crate) fn report(&self, alloc: Global) -> Result<Report, AllocError>
-        ensures { IfOk result (λ r. IsReport r (y4m_ending self.now)) }
-    {
-        match self {
-            Y4mOutcome::Unread(error) => unread(alloc, error),
-            Y4mOutcome::Encoded(outcome) => outcome.report(alloc),
-            Y4mOutcome::Broken(fault) => y4m_fault(alloc, fault),
-        }
-    }
-}
-
-/// The report of a text whose header line wasn't read.
-#[tactic(auto, unfolding(crate::specs::Y4mCoding::unread_ending))]
-fn unread(alloc: Global, error: &Y4mError) -> Result<Report, AllocError>
-    ensures { IfOk result (λ r. IsReport r (unread_ending error.now)) }
-{
-    match error {
-        Y4mError::Read => read_fault(alloc),
-        Y4mError::Y4m(fault) => y4m_fault(alloc, fault),
-        Y4mError::Memory => no_memory(alloc),
-    }
 }
 
 /// The words with the sizes and the rate of a header.
@@ -170,12 +119,9 @@ pub(crate) fn encoded_text<
 ) -> Y4mOutcome
     requires output { IsTrue (K.ready output.old) }
     requires recon { IsFalse (N.ready recon.old) }
-    ensures comes { Y4mComes (words_of meant) (record {
-      input = change S.left S.faults input.old input.new;
-      output = change K.held K.faults output.old output.new;
-      recon = change N.held N.faults recon.old recon.new;
-      place = record { ready = N.ready recon.new; name = N.name recon.new };
-    }) result }
+    ensures comes { Y4mComes (words_of meant)
+        (worked S.left S.faults K.held K.faults N.held N.faults N.ready N.name
+        input.old input.new output.old output.new recon.old recon.new) result }
     ensures recon { N.faults recon.old ≤ N.faults recon.new }
     ensures output { SinkStays K.ready K.name K.faults output.old output.new }
     ensures input { S.faults input.old ≤ S.faults input.new }
