@@ -1,5 +1,5 @@
 -- What follows from what `audit` did and what was told of it.
-use Rattle.std.proofs.Common.{◌≡◌, inr, ℕ, List, Some, refl, subst}
+use Rattle.std.proofs.Common.{◌≡◌, inr, ℕ, List, Some, subst}
 use Rattle.m2v_port.proofs.Runs.{tells}
 use Rattle.m2v_cut.proofs.m2v_decode.AnswerLaws.{of_text}
 use Rattle.m2v_dec_piece.specs.declared.answer.DecodeError.{DecodeError}

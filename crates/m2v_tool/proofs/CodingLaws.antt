@@ -26,9 +26,9 @@ use Rattle.m2v_flat.proofs.LawfulStreams.{flat_lawful}
 use Rattle.m2v_tool.specs.declared.flat.FlatWords.{FlatWords}
 use Rattle.m2v_tool.specs.declared.flat.FlatOutcome.{FlatOutcome}
 use Rattle.m2v_tool.specs.declared.flat.FlatOutcome.TheVariants.{Coded, Unfit, Stopped}
-use Rattle.m2v_tool.specs.Endings.{Told, whole, cut, unfit_ending}
+use Rattle.m2v_tool.specs.Endings.{Success, Told, whole, cut, unfit_ending}
 use Rattle.m2v_tool.specs.Words.{settings_of, WordsPass, WordsFail}
-use Rattle.m2v_tool.specs.Coding.{FlatDone, FlatStopped, FlatComes, coding_stopped, flat_ending, FlatAnswer, FlatKeeps}
+use Rattle.m2v_tool.specs.Coding.{FlatDone, FlatStopped, FlatComes, coding_stopped, flat_ending, flat_coded_ending, FlatAnswer, FlatKeeps}
 use Rattle.m2v_tool.specs.Inputs.{AreFrames, EndInside}
 use Rattle.m2v_tool.specs.Runs.{Run, work_of, IsUntouched, Yields, RefusedBy, NoneFailed, Succeeds}
 use Rattle.m2v_tool.proofs.EndingLaws.{refusal, or_memory, read_told, write_told, want_told, well_answered}
@@ -199,21 +199,19 @@ module _ (r : Run) (w : FlatWords) where
   whole_answer bytes passes frames well (FlatAnswer.none p f is) = absurd (not_empty (frame_bytes (settings_of w).dims) bytes (some_bytes w passes) frames f)
   whole_answer bytes passes frames well (FlatAnswer.many p f is) = absurd (not_many (frame_bytes (settings_of w).dims) bytes frames f)
 
-  pub flat_keeps : (o : FlatOutcome) → FlatComes w r.input r.output o → Told (flat_ending o) r.status r.report → r.recon.Unchanged → FlatKeeps w r
-  flat_keeps o c t k = record {
-    done = flat_done r w o c t;
-    unfit = unfit_at o c t k;
-    answer = tells r.input (λ bytes. Yields r (FlatAnswer r w (length bytes))) (λ bytes is. answer_at bytes is o c t);
+  keeps_with : (r.status ≡ 0 → Success (FlatDone w r.input r.output) flat_coded_ending r.report) → ((WordsPass w → ⊥) → RefusedBy 3 r)
+      → ((bytes : List ℕ) → r.input.old ≡ Some bytes → Yields r (FlatAnswer r w (length bytes))) → FlatKeeps w r
+  keeps_with done unfit answer = record {
+    done = done;
+    unfit = unfit;
+    answer = tells r.input (λ bytes. Yields r (FlatAnswer r w (length bytes))) answer;
     coded = tells r.input (λ bytes. WordsPass w → AreFrames (frame_bytes (settings_of w).dims) (length bytes) → NoneFailed r → Succeeds r)
-        (λ bytes is passes frames well. well_answered r well (whole_answer (length bytes) passes frames well) (answer_at bytes is o c t));
+        (λ bytes told passes frames well. well_answered r well (whole_answer (length bytes) passes frames well) (answer bytes told));
   }
+
+  pub flat_keeps : (o : FlatOutcome) → FlatComes w r.input r.output o → Told (flat_ending o) r.status r.report → r.recon.Unchanged → FlatKeeps w r
+  flat_keeps o c t k = keeps_with (flat_done r w o c t) (unfit_at o c t k) (λ bytes told. answer_at bytes told o c t)
 
   -- where memory ran out before the words were read
   pub flat_unread : IsUntouched (work_of r) → r.status ≡ 12 → FlatKeeps w r
-  flat_unread untouched is = record {
-    done = no_success r is;
-    unfit = λ fails. (inr is, untouched);
-    answer = tells r.input (λ bytes. Yields r (FlatAnswer r w (length bytes))) (λ bytes told. Yields.memory is);
-    coded = tells r.input (λ bytes. WordsPass w → AreFrames (frame_bytes (settings_of w).dims) (length bytes) → NoneFailed r → Succeeds r)
-        (λ bytes told passes frames well. inr is);
-  }
+  flat_unread untouched is = keeps_with (no_success r is) (λ fails. (inr is, untouched)) (λ bytes told. Yields.memory is)

@@ -1,5 +1,5 @@
 -- What follows from what `encode` did and what was told of it.
-use Rattle.std.proofs.Common.{◌≡◌, inl, inr, ℕ, ◌*◌, ◌<◌, ◌≤◌, ◌++◌, List, [], ◌∷◌, length, Option, Some, refl, sym, ap, ◌∙◌, arith, length-append}
+use Rattle.std.proofs.Common.{◌≡◌, inl, inr, ℕ, ◌*◌, ◌<◌, ◌≤◌, ◌++◌, List, [], ◌∷◌, length, Option, Some, refl, sym, ap, ◌∙◌, arith}
 use Rattle.std.proofs.Math.Nat.{mul-pos}
 use Rattle.m2v_port.specs.Ends.{Change, change}
 use Rattle.m2v_port.specs.declared.error.PortError.{PortError}
@@ -20,11 +20,11 @@ use Rattle.m2v_make.specs.m2v_encode.Answers.{AllCoded, Stops, EndedShort, WasEm
 use Rattle.m2v_make.proofs.m2v_encode.Alike.{TellAlike, coded_alike, stops_alike}
 use Rattle.m2v_tool.specs.declared.encode.EncodeOutcome.{EncodeOutcome}
 use Rattle.m2v_tool.specs.declared.encode.EncodeOutcome.TheVariants.{Coded, Unfit as NotFit, Unopened, Stopped}
-use Rattle.m2v_tool.specs.Endings.{Told, whole, cut, unfit_ending, unopened_ending}
+use Rattle.m2v_tool.specs.Endings.{Success, Told, whole, cut, unfit_ending, unopened_ending}
 use Rattle.m2v_tool.specs.EncodeWords.{Meant}
 use Rattle.m2v_tool.specs.Inputs.{AreFrames, EndInside}
 use Rattle.m2v_tool.specs.Places.{opened, recon_by}
-use Rattle.m2v_tool.specs.Encoding.{frame_size, EncodeStopped, EncodeShut, EncodeComes, encoding_stopped, encoded_ending, encode_ending, EncodeAnswer, EncodeKeeps}
+use Rattle.m2v_tool.specs.Encoding.{frame_size, EncodeDone, EncodeStopped, EncodeShut, EncodeComes, encoding_stopped, encoded_ending, encode_ending, EncodeAnswer, EncodeKeeps}
 use Rattle.m2v_tool.specs.Runs.{Run, work_of, IsUntouched, Yields, RefusedBy, NoneFailed, Succeeds}
 use Rattle.m2v_tool.proofs.EndingLaws.{refusal, or_memory, read_told, want_told, well_answered}
 use Rattle.m2v_tool.proofs.PlaceLaws.{grown_from, prefix_from, failed_of}
@@ -139,24 +139,22 @@ module _ (r : Run) (m : Meant) where
   whole_answer bytes some passes frames well sound (EncodeAnswer.many p f is) = absurd (not_many (frame_size m) bytes frames f)
   whole_answer bytes some passes frames well sound (EncodeAnswer.recon p f is) = absurd (sound f)
 
-  pub encode_keeps : (o : EncodeOutcome) → EncodeComes m (work_of r) o → Told (encode_ending o) r.status r.report → EncodeKeeps m r
-  encode_keeps o c t = record {
-    done = encode_done r m o c t;
-    unfit = unfit_at o c t;
-    answer = tells r.input (λ bytes. Yields r (EncodeAnswer r m (length bytes))) (λ bytes is. answer_at bytes is o c t);
+  keeps_with : (r.status ≡ 0 → Success (EncodeDone m (work_of r)) encoded_ending r.report) → ((Passes m.settings → ⊥) → RefusedBy 3 r)
+      → ((bytes : List ℕ) → r.input.old ≡ Some bytes → Yields r (EncodeAnswer r m (length bytes))) → EncodeKeeps m r
+  keeps_with done unfit answer = record {
+    done = done;
+    unfit = unfit;
+    answer = tells r.input (λ bytes. Yields r (EncodeAnswer r m (length bytes))) answer;
     coded = tells r.input (λ bytes. Passes m.settings → AreFrames (frame_size m) (length bytes) → NoneFailed r → (r.recon.Failed → ⊥) → Succeeds r)
-        (λ bytes is passes frames well sound. well_answered r well (whole_answer (length bytes) (some_bytes m.settings passes) passes frames well sound) (answer_at bytes is o c t));
+        (λ bytes told passes frames well sound. well_answered r well (whole_answer (length bytes) (some_bytes m.settings passes) passes frames well sound) (answer bytes told));
   }
+
+  pub encode_keeps : (o : EncodeOutcome) → EncodeComes m (work_of r) o → Told (encode_ending o) r.status r.report → EncodeKeeps m r
+  encode_keeps o c t = keeps_with (encode_done r m o c t) (unfit_at o c t) (λ bytes told. answer_at bytes told o c t)
 
   -- where memory ran out before the words were read
   pub encode_unread : IsUntouched (work_of r) → r.status ≡ 12 → EncodeKeeps m r
-  encode_unread untouched is = record {
-    done = no_success r is;
-    unfit = λ fails. (inr is, untouched);
-    answer = tells r.input (λ bytes. Yields r (EncodeAnswer r m (length bytes))) (λ bytes told. Yields.memory is);
-    coded = tells r.input (λ bytes. Passes m.settings → AreFrames (frame_size m) (length bytes) → NoneFailed r → (r.recon.Failed → ⊥) → Succeeds r)
-        (λ bytes told passes frames well sound. inr is);
-  }
+  encode_unread untouched is = keeps_with (no_success r is) (λ fails. (inr is, untouched)) (λ bytes told. Yields.memory is)
 
 -- ---- what was done to a place since it was opened counts as done to it since before
 

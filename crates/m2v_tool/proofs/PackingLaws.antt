@@ -1,5 +1,5 @@
 -- What follows from what `pack` and `unpack` did and what was told of them.
-use Rattle.std.proofs.Common.{◌≡◌, inl, inr, ℕ, ◌*◌, ◌<◌, ◌≤◌, List, [], ◌∷◌, ◌++◌, length, Option, Some, Result, Ok, Err, IfSome, refl, sym, ap, subst, ◌∙◌, arith, length-append}
+use Rattle.std.proofs.Common.{◌≡◌, inl, inr, ℕ, ◌*◌, ◌<◌, ◌≤◌, List, [], ◌∷◌, ◌++◌, length, Option, Some, Result, Ok, Err, IfSome, refl, sym, ap, subst, ◌∙◌}
 use Rattle.m2v_port.specs.Ends.{Change, Tells}
 use Rattle.m2v_port.specs.Port.{Grows}
 use Rattle.m2v_port.proofs.Runs.{tells}
@@ -21,9 +21,9 @@ use Rattle.m2v_tool.specs.declared.pack.PackOutcome.{PackOutcome}
 use Rattle.m2v_tool.specs.declared.pack.PackOutcome.TheVariants as packs
 use Rattle.m2v_tool.specs.declared.unpack.UnpackOutcome.{UnpackOutcome}
 use Rattle.m2v_tool.specs.declared.unpack.UnpackOutcome.TheVariants as unpacks
-use Rattle.m2v_tool.specs.Endings.{Told, whole, cut, line_of, unfit_ending, short_frame, too_many_frames}
+use Rattle.m2v_tool.specs.Endings.{Success, Told, whole, cut, line_of, unfit_ending, short_frame, too_many_frames}
 use Rattle.m2v_tool.specs.Inputs.{AreFew, EndInside}
-use Rattle.m2v_tool.specs.Packing.{PackComes, packed_ending, packing_stopped, unpacking_stopped, pack_ending, unpack_ending, y4m_fault, PackAnswer, PackKeeps, UnpackComes, numbers_of, UnpackDone, Says, UnpackKeeps}
+use Rattle.m2v_tool.specs.Packing.{PackDone, PackComes, packed_ending, packing_stopped, unpacking_stopped, pack_ending, unpack_ending, y4m_fault, PackAnswer, PackKeeps, UnpackComes, numbers_of, UnpackDone, Says, UnpackKeeps}
 use Rattle.m2v_tool.specs.Runs.{Run, work_of, IsUntouched, Yields, RefusedBy, NoneFailed, Succeeds}
 use Rattle.m2v_tool.proofs.EndingLaws.{refusal, or_memory, read_told, write_told, want_told, well_answered}
 use Rattle.m2v_tool.proofs.DoneLaws.{pack_done, unpack_done, no_success}
@@ -93,23 +93,22 @@ module _ (r : Run) (h : Y4mHeader) where
   whole_answer bytes passes frames well (PackAnswer.short p f is) = absurd (not_inside_of (size_of h) bytes frames.frames frames.are f)
   whole_answer bytes passes frames well (PackAnswer.many p f is) = absurd (not_many_of (size_of h) bytes frames.frames frames.most frames.are f)
 
-  pub pack_keeps : (o : PackOutcome) → PackComes h r.input r.output o → Told (pack_ending o) r.status r.report → r.recon.Unchanged → PackKeeps h r
-  pack_keeps o c t k = record {
-    done = pack_done r h o c t;
-    unfit = unfit_at o c t k;
-    answer = tells r.input (λ bytes. Yields r (PackAnswer r h (length bytes))) (λ bytes is. answer_at bytes is o c t);
+  keeps_with : (r.status ≡ 0 → Success (PackDone h r.input r.output) packed_ending r.report) → ((Passes h → ⊥) → RefusedBy 3 r)
+      → ((bytes : List ℕ) → r.input.old ≡ Some bytes → Yields r (PackAnswer r h (length bytes))) → PackKeeps h r
+  keeps_with done unfit answer = record {
+    done = done;
+    unfit = unfit;
+    answer = tells r.input (λ bytes. Yields r (PackAnswer r h (length bytes))) answer;
     packed = tells r.input (λ bytes. Passes h → AreFew (size_of h) (length bytes) → NoneFailed r → Succeeds r)
-        (λ bytes is passes frames well. well_answered r well (whole_answer (length bytes) passes frames well) (answer_at bytes is o c t));
+        (λ bytes told passes frames well. well_answered r well (whole_answer (length bytes) passes frames well) (answer bytes told));
   }
+
+  pub pack_keeps : (o : PackOutcome) → PackComes h r.input r.output o → Told (pack_ending o) r.status r.report → r.recon.Unchanged → PackKeeps h r
+  pack_keeps o c t k = keeps_with (pack_done r h o c t) (unfit_at o c t k) (λ bytes told. answer_at bytes told o c t)
 
   -- where memory ran out before the words were read
   pub pack_unread : IsUntouched (work_of r) → r.status ≡ 12 → PackKeeps h r
-  pack_unread untouched is = record {
-    done = no_success r is;
-    unfit = λ fails. (inr is, untouched);
-    answer = tells r.input (λ bytes. Yields r (PackAnswer r h (length bytes))) (λ bytes told. Yields.memory is);
-    packed = tells r.input (λ bytes. Passes h → AreFew (size_of h) (length bytes) → NoneFailed r → Succeeds r) (λ bytes told passes frames well. inr is);
-  }
+  pack_unread untouched is = keeps_with (no_success r is) (λ fails. (inr is, untouched)) (λ bytes told. Yields.memory is)
 
 -- ---- what was told of unpacking
 

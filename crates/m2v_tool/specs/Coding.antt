@@ -1,5 +1,5 @@
 -- What `flat` does: which outcome comes, what stands in input and output then, and what is answered to an input.
-use Rattle.std.specs.Prelude.{ℕ, ◌≡◌, ◌*◌, ◌<◌, [], ◌∷◌, length, codes}
+use Rattle.std.specs.Prelude.{ℕ, ◌≡◌, ◌*◌, ◌<◌, length}
 use Rattle.m2v_port.specs.Ends.{Change, Tells}
 use Rattle.m2v_plane.specs.Raw.{frame_bytes}
 use Rattle.m2v_flat.specs.declared.answer.Summary.{Summary}

@@ -1,5 +1,5 @@
 -- What `encode` does: which outcome comes, what stands in input, output and recon then, and what is answered to an input.
-use Rattle.std.specs.Prelude.{ℕ, ◌≡◌, ◌*◌, ◌<◌, [], ◌∷◌, None, length, codes}
+use Rattle.std.specs.Prelude.{ℕ, ◌≡◌, ◌*◌, ◌<◌, None, length}
 use Rattle.m2v_port.specs.Ends.{Tells}
 use Rattle.m2v_port.specs.declared.error.PortError.{PortError}
 use Rattle.m2v_plane.specs.Raw.{frame_bytes}

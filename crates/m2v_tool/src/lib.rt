@@ -2,6 +2,7 @@
 #![tactic(auto)]
 
 mod audit;
+mod beside;
 mod check;
 mod command;
 mod cut;

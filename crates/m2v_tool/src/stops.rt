@@ -1,14 +1,8 @@
 // What is told where a command stopped: the status and the line on report of each error.
 ghost use Rattle.std.specs.Prelude.{IfOk};
 ghost use Rattle.m2v_tool.specs.Endings.{IsReport};
-ghost use Rattle.m2v_tool.specs.Coding.{coding_stopped};
-ghost use Rattle.m2v_tool.specs.Cutting.{cutting_stopped, no_group, not_cuttable};
-ghost use Rattle.m2v_tool.specs.Decoding.{decoding_stopped};
-ghost use Rattle.m2v_tool.specs.Encoding.{encoding_stopped};
-ghost use Rattle.m2v_tool.specs.Making.{making_stopped};
-ghost use Rattle.m2v_tool.specs.Mending.{mending_stopped};
-ghost use Rattle.m2v_tool.specs.Packing.{packing_stopped, unpacking_stopped};
-ghost use Rattle.m2v_tool.specs.Y4mCoding.{unread_ending};
+ghost use Rattle.m2v_tool.specs.Cutting.{no_group, not_cuttable};
+ghost use Rattle.m2v_tool.specs.Commands.{coding_stopped, cutting_stopped, decoding_stopped, encoding_stopped, making_stopped, mending_stopped, packing_stopped, unpacking_stopped, unread_ending};
 
 use crate::report::{
     Ends, Report, no_frames, no_memory, read_fault, short_frame, stream_fault, too_large, too_long,

@@ -4,10 +4,8 @@ ghost use Rattle.m2v_tool.specs.Endings.{Told};
 ghost use Rattle.m2v_tool.specs.Runs.{worked};
 ghost use Rattle.m2v_tool.specs.Commands.{Comes, Kept, ending_of};
 
+use crate::beside::{encoded, encoded_text, mended};
 use crate::command::{Command, Outcome, meaning};
-use crate::encode::encoded;
-use crate::encode_y4m::encoded_text;
-use crate::mend::mended;
 use crate::report::{Ends, Report};
 use crate::work::{audited, coded, cut_out, decoded, judged, made, packed_frames, unpacked};
 use m2v_board::Gate;

@@ -1,6 +1,6 @@
 use Rattle.std.proofs.Common.{refl, sym, ap, ◌∙◌}
 use Rattle.m2v_tool.proofs.Y4mCodingLaws.{encoded_read, broken_read_off}
-use Rattle.m2v_tool.proofs.encode_y4m.coded_behind.Goals as goal
+use Rattle.m2v_tool.proofs.beside.coded_behind.Goals as goal
 
 pub returns-then-not-stopped_reading-clause-comes : goal.returns-then-not-stopped_reading-clause-comes
 returns-then-not-stopped_reading-clause-comes g c =

@@ -3,7 +3,7 @@ use Rattle.m2v_port.specs.Ends.{change}
 use Rattle.m2v_tool.specs.Mending.{MendComes}
 use Rattle.m2v_tool.proofs.PlaceLaws.{shut_of}
 use Rattle.m2v_tool.proofs.MendingLaws.{read_from, fails_from}
-use Rattle.m2v_tool.proofs.mend.mended_beside.Goals as goal
+use Rattle.m2v_tool.proofs.beside.mended_beside.Goals as goal
 
 pub returns-in-Err-clause-comes : goal.returns-in-Err-clause-comes
 unfolding MendComes

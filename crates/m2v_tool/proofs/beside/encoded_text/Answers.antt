@@ -1,7 +1,7 @@
 use Rattle.std.proofs.Common.{rules, refl}
 use Rattle.m2v_tool.specs.Y4mCoding.{Y4mComes}
 use Rattle.m2v_tool.proofs.Y4mCodingLaws.{text_answer}
-use Rattle.m2v_tool.proofs.encode_y4m.encoded_text.Goals as goal
+use Rattle.m2v_tool.proofs.beside.encoded_text.Goals as goal
 
 pub returns-in-Err-clause-comes : goal.returns-in-Err-clause-comes
 unfolding Y4mComes

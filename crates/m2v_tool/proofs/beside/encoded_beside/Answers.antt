@@ -3,7 +3,7 @@ use Rattle.m2v_port.specs.Ends.{change}
 use Rattle.m2v_tool.specs.Encoding.{EncodeComes}
 use Rattle.m2v_tool.proofs.EncodingLaws.{coded_from, stops_from}
 use Rattle.m2v_tool.proofs.PlaceLaws.{shut_of}
-use Rattle.m2v_tool.proofs.encode.encoded_beside.Goals as goal
+use Rattle.m2v_tool.proofs.beside.encoded_beside.Goals as goal
 
 pub returns-in-Err-clause-comes : goal.returns-in-Err-clause-comes
 unfolding EncodeComes

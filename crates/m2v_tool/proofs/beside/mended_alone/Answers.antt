@@ -1,6 +1,6 @@
 use Rattle.std.proofs.Common.{refl}
 use Rattle.m2v_tool.specs.Mending.{MendComes}
-use Rattle.m2v_tool.proofs.mend.mended_alone.Goals as goal
+use Rattle.m2v_tool.proofs.beside.mended_alone.Goals as goal
 
 pub returns-in-Ok-clause-comes : goal.returns-in-Ok-clause-comes
 unfolding MendComes
