@@ -89,19 +89,13 @@ fn meant_by(alloc: Global, name: &str, others: &[String]) -> Result<Option<Comma
         "flat" => Ok(flat_words(alloc, others)?.map(Command::Flat)),
         "encode" => Ok(encode_words(alloc, others)?.map(Command::Encode)),
         "decode" => Ok(decode_words(alloc, others)?.map(Command::Decode)),
-        "check" => {
-            let taken = check_words(alloc, others)?;
-            Ok(taken.then_some(Command::Check))
-        }
+        "check" => Ok(check_words(alloc, others)?.then_some(Command::Check)),
         "audit" => Ok(audit_words(alloc, others)?.map(Command::Audit)),
         "mend" => Ok(mend_words(alloc, others)?.map(Command::Mend)),
         "make" => Ok(make_words(alloc, others)?.map(Command::Make)),
         "cut" => Ok(cut_words(alloc, others)?.map(Command::Cut)),
         "pack" => Ok(pack_words(alloc, others)?.map(Command::Pack)),
-        "unpack" => {
-            let taken = unpack_words(alloc, others)?;
-            Ok(taken.then_some(Command::Unpack))
-        }
+        "unpack" => Ok(unpack_words(alloc, others)?.then_some(Command::Unpack)),
         "encode-y4m" => Ok(y4m_words(alloc, others)?.map(Command::EncodeY4m)),
         _ => Ok(None),
     }

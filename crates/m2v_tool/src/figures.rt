@@ -2,7 +2,7 @@
 ghost use Rattle.std.specs.Prelude.{◌≡◌, IfOk};
 ghost use Rattle.m2v_mend.specs.Making.{fault_told};
 ghost use Rattle.m2v_mend.specs.m2v_law_seam.Told.{all_kept, some_kept, none_kept};
-ghost use Rattle.m2v_tool.specs.Endings.{IsReport, coded_ending};
+ghost use Rattle.m2v_tool.specs.Endings.{IsReport, coded_ending, unfit_ending};
 ghost use Rattle.m2v_tool.specs.Auditing.{clean_ending, found_ending};
 ghost use Rattle.m2v_tool.specs.Checking.{lawful_ending, variable_ending};
 ghost use Rattle.m2v_tool.specs.Making.{made_ending};
@@ -13,6 +13,7 @@ use m2v_audit::TotalRecord;
 use m2v_cut::decode::{Fault, fault_word};
 use m2v_make::Made;
 use m2v_make::check::Figures;
+use m2v_set::Unfit;
 use std::alloc::{AllocError, Global};
 
 /// The report of a stream that was coded.
@@ -184,6 +185,22 @@ pub(crate) fn made(alloc: Global, seed: u64, made: &Made) -> Result<Report, Allo
             (" low ", made.low),
             (" high ", made.high),
             (" delays ", u128::from(made.delays)),
+        ],
+    )
+}
+
+/// The settings don't pass: the first condition that fails.
+#[tactic(auto, unfolding(crate::specs::Endings::unfit_ending))]
+pub(crate) fn unfit(alloc: Global, unfit: &Unfit) -> Result<Report, AllocError>
+    ensures { IfOk result (λ r. IsReport r (unfit_ending unfit.now)) }
+{
+    Report::new(
+        alloc,
+        3,
+        &[
+            ("unfit rule ", u128::from(unfit.rule)),
+            (" have ", unfit.have),
+            (" need ", unfit.need),
         ],
     )
 }

@@ -1,12 +1,11 @@
 ghost use Rattle.std.specs.Prelude.{◌≡◌, ◌++◌, map, IfOk};
 ghost use Rattle.m2v_model.specs.Pieces.{too_large, too_long};
-ghost use Rattle.m2v_tool.specs.Endings.{Ending, IsReport, ending_past, line_text, no_frames, no_memory, numbered, plain, read_fault, short_frame, stream_fault, too_many_frames, unfit_ending, unopened_ending, usage, write_fault};
+ghost use Rattle.m2v_tool.specs.Endings.{Ending, IsReport, ending_past, line_text, no_frames, no_memory, numbered, plain, read_fault, short_frame, stream_fault, too_many_frames, unopened_ending, usage, write_fault};
 ghost use Rattle.m2v_tool.specs.Packing.{kind_name, y4m_fault};
 
 use itoa::Buffer;
 use m2v_cut::decode::{Fault, fault_word};
 use m2v_port::PortError;
-use m2v_set::Unfit;
 use m2v_y4m::{Y4mFault, Y4mKind};
 use std::alloc::{AllocError, Global};
 
@@ -111,22 +110,6 @@ pub(crate) fn unopened(alloc: Global, error: PortError) -> Result<Report, AllocE
         PortError::Failed => write_fault(alloc),
         PortError::Memory => no_memory(alloc),
     }
-}
-
-/// The settings don't pass: the first condition that fails.
-#[tactic(auto, unfolding(crate::specs::Endings::unfit_ending))]
-pub(crate) fn unfit(alloc: Global, unfit: &Unfit) -> Result<Report, AllocError>
-    ensures { IfOk result (λ r. IsReport r (unfit_ending unfit.now)) }
-{
-    Report::new(
-        alloc,
-        3,
-        &[
-            ("unfit rule ", u128::from(unfit.rule)),
-            (" have ", unfit.have),
-            (" need ", unfit.need),
-        ],
-    )
 }
 
 /// Raw frames end inside one, of which these many bytes are there.

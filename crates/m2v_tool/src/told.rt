@@ -14,13 +14,13 @@ use crate::cut::CutOutcome;
 use crate::decode::DecodeOutcome;
 use crate::encode::EncodeOutcome;
 use crate::encode_y4m::Y4mOutcome;
-use crate::figures::{all, clean, coded, found, lawful, made, nothing, some, variable};
+use crate::figures::{all, clean, coded, found, lawful, made, nothing, some, unfit, variable};
 use crate::flat::FlatOutcome;
 use crate::make::MakeOutcome;
 use crate::mend::MendOutcome;
 use crate::pack::PackOutcome;
 use crate::report::{
-    Ends, Report, no_memory, stream_fault, too_large, too_long, unfit, unopened, usage, y4m_fault,
+    Ends, Report, no_memory, stream_fault, too_large, too_long, unopened, usage, y4m_fault,
 };
 use crate::unpack::UnpackOutcome;
 use m2v_audit::{Ending, LimitKind, TotalRecord};

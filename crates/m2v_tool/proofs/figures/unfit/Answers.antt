@@ -1,5 +1,5 @@
 use Rattle.m2v_tool.specs.Endings.{unfit_ending}
-use Rattle.m2v_tool.proofs.report.unfit.Goals as goal
+use Rattle.m2v_tool.proofs.figures.unfit.Goals as goal
 
 pub returns : goal.returns
 unfolding unfit_ending
