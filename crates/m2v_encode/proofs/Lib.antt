@@ -16,6 +16,7 @@ pub mod Ended
 pub mod Due
 pub mod Ends
 pub mod Loop
+pub mod Alike
 pub mod WithoutRecon
 pub use Rattle.m2v_law_shown.proofs.m2v_enc_stream
 pub use Rattle.m2v_law_shown.proofs as m2v_law_shown

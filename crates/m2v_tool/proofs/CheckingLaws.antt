@@ -26,7 +26,7 @@ use Rattle.m2v_tool.specs.Endings.{Ending, Told, whole, cut, stream_fault, endin
 use Rattle.m2v_tool.specs.Decoding.{decoding_stopped}
 use Rattle.m2v_tool.specs.Checking.{CheckComes, lawful_ending, variable_ending, verdict_ending, check_ending, Says, CheckKeeps}
 use Rattle.m2v_tool.specs.Runs.{Run, Yields, NoneFailed, Succeeds}
-use Rattle.m2v_tool.proofs.EndingLaws.{refusal, or_memory}
+use Rattle.m2v_tool.proofs.EndingLaws.{read_told, want_told, well_answered}
 use Rattle.m2v_tool.proofs.DoneLaws.{check_done, no_success}
 
 -- ---- outcomes as results
@@ -46,11 +46,11 @@ module _ (r : Run) where
   -- an endpoint or memory failed
   read_at : (Answer : Type 0) → r.input.Failed → Told (decoding_stopped errors.Read) r.status r.report → Yields r Answer
   unfolding decoding_stopped
-  read_at Answer failed t = or_memory r Answer 7 (refusal (decoding_stopped errors.Read) r.status 7 r.report t refl refl) (λ is. Yields.read is failed)
+  read_at Answer failed t = read_told r t failed
 
   memory_at : (Answer : Type 0) → Told (decoding_stopped errors.Memory) r.status r.report → Yields r Answer
   unfolding decoding_stopped
-  memory_at Answer t = or_memory r Answer 12 (refusal (decoding_stopped errors.Memory) r.status 12 r.report t refl refl) (λ is. Yields.memory is)
+  memory_at Answer t = want_told r t
 
   -- ---- what is answered of a limit
 
@@ -161,12 +161,9 @@ module _ (r : Run) where
     success_told e zero well (cut (inl is) g) = inr is
     success_told e zero well (cut (inr is) g) = absurd (well.report is.0)
 
-    passes_at : (e : Ending) → e.status ≡ 0 → IsUnderLimits text → NoneFailed r → Yields r (Says r text (IsUnderLimits text) e) → Succeeds r
-    passes_at e zero under well (Yields.said (Says.told reached t)) = success_told e zero well t
-    passes_at e zero under well (Yields.said (Says.past l over i t)) = absurd (over under)
-    passes_at e zero under well (Yields.read is rose) = absurd (well.input rose)
-    passes_at e zero under well (Yields.write is rose) = absurd (well.output rose)
-    passes_at e zero under well (Yields.memory is) = inr is
+    passes_at : (e : Ending) → e.status ≡ 0 → IsUnderLimits text → NoneFailed r → Says r text (IsUnderLimits text) e → Succeeds r
+    passes_at e zero under well (Says.told reached t) = success_told e zero well t
+    passes_at e zero under well (Says.past l over i t) = absurd (over under)
 
 lawful_zero : (f : Figures) → (verdict_ending (verdicts.Lawful f)).status ≡ 0
 unfolding verdict_ending lawful_ending
@@ -186,9 +183,9 @@ check_keeps r o c t = record {
   over = tells r.input (λ text. (l : Limit) → IsPast text l → Yields r (Told (ending_past l) r.status r.report)) (λ text is l past. over_at r text is l past o c t);
   late = tells r.input (λ text. IsLate text → Yields r (Told (ending_past too_long) r.status r.report)) (λ text is late. late_at r text is late o c t);
   lawful = tells r.input (λ text. (f : Figures) → IsLawful text f → IsUnderLimits text → NoneFailed r → Succeeds r)
-      (λ text is f m under well. passes_at r text is (verdict_ending (verdicts.Lawful f)) (lawful_zero f) under well (judges_at r text is (verdicts.Lawful f) m o c t));
+      (λ text is f m under well. well_answered r well (passes_at r text is (verdict_ending (verdicts.Lawful f)) (lawful_zero f) under well) (judges_at r text is (verdicts.Lawful f) m o c t));
   variable = tells r.input (λ text. (f : Figures) → IsVariable text f → IsUnderLimits text → NoneFailed r → Succeeds r)
-      (λ text is f m under well. passes_at r text is (verdict_ending (verdicts.Variable f)) (variable_zero f) under well (judges_at r text is (verdicts.Variable f) m o c t));
+      (λ text is f m under well. well_answered r well (passes_at r text is (verdict_ending (verdicts.Variable f)) (variable_zero f) under well) (judges_at r text is (verdicts.Variable f) m o c t));
 }
 
 -- where memory ran out before the words were read

@@ -26,12 +26,12 @@ use Rattle.m2v_flat.proofs.LawfulStreams.{flat_lawful}
 use Rattle.m2v_tool.specs.declared.flat.FlatWords.{FlatWords}
 use Rattle.m2v_tool.specs.declared.flat.FlatOutcome.{FlatOutcome}
 use Rattle.m2v_tool.specs.declared.flat.FlatOutcome.TheVariants.{Coded, Unfit, Stopped}
-use Rattle.m2v_tool.specs.Endings.{Told, whole, cut, unfit_ending}
+use Rattle.m2v_tool.specs.Endings.{Success, Told, whole, cut, unfit_ending}
 use Rattle.m2v_tool.specs.Words.{settings_of, WordsPass, WordsFail}
-use Rattle.m2v_tool.specs.Coding.{FlatDone, FlatStopped, FlatComes, coding_stopped, flat_ending, FlatAnswer, FlatKeeps}
+use Rattle.m2v_tool.specs.Coding.{FlatDone, FlatStopped, FlatComes, coding_stopped, flat_ending, flat_coded_ending, FlatAnswer, FlatKeeps}
 use Rattle.m2v_tool.specs.Inputs.{AreFrames, EndInside}
 use Rattle.m2v_tool.specs.Runs.{Run, work_of, IsUntouched, Yields, RefusedBy, NoneFailed, Succeeds}
-use Rattle.m2v_tool.proofs.EndingLaws.{refusal, or_memory}
+use Rattle.m2v_tool.proofs.EndingLaws.{refusal, or_memory, read_told, write_told, want_told, well_answered}
 use Rattle.m2v_tool.proofs.DoneLaws.{flat_done, no_success}
 
 -- ---- how many bytes an input had
@@ -42,6 +42,24 @@ frames_length size (f ∷ frames) each =
     let first : length f ≡ size = each 0 f (omega arith) in
     let others : length (raw frames) ≡ length frames * size = frames_length size frames (λ k d lt. each (suc k) d (omega arith)) in
     omega (arith, length-append f (raw frames), first, others, suc-mul (length frames) size)
+
+-- raw frames, a part of one more behind them, and where they end
+pub ends_inside : (size extra : ℕ) (frames : List (List ℕ)) (part bytes : List ℕ) → All (λ (f : List ℕ). length f ≡ size) frames → raw frames ++ part ≡ bytes → length part ≡ extra
+    → length frames < most_frames → 0 < extra → extra < size → EndInside size (length bytes)
+ends_inside size extra frames part bytes each all count fewer some less = record {
+  frames = length frames;
+  extra = extra;
+  fewer = fewer;
+  some = some;
+  less = less;
+  are = omega (arith, ap length all, length-append (raw frames) part, frames_length size frames each, count);
+}
+
+pub goes_past : (size next : ℕ) (frames : List (List ℕ)) (bytes : List ℕ) → All (λ (f : List ℕ). length f ≡ size) frames → length frames ≡ most_frames → length (raw frames ++ next ∷ []) ≤ length bytes
+    → most_frames * size < length bytes
+goes_past size next frames bytes each all long =
+    let total : length (raw frames) ≡ most_frames * size = frames_length size frames each ∙ ap (λ (n : ℕ). n * size) all in
+    omega (arith, long, total, length-append (raw frames) (next ∷ []))
 
 -- what was read to the end is the input, where it is told
 pub all_read : (left : Change) (bytes xs : List ℕ) → left.old ≡ Some bytes → Moves left.old xs left.new → IsAtEnd left.new → xs ≡ bytes
@@ -66,25 +84,14 @@ done_frames s left held bytes summary is c =
 
 short_inside : (s : FlatSettings) (left held : Change) (bytes : List ℕ) (extra : ℕ) → left.old ≡ Some bytes → EndedShort s left held extra → EndInside (frame_bytes s.dims) (length bytes)
 short_inside s left held bytes extra is e =
-    let all : raw e.frames ++ e.part ≡ bytes = all_read left bytes (raw e.frames ++ e.part) is e.begun.moved e.end in
-    record {
-      frames = length e.frames;
-      extra = extra;
-      fewer = e.fewer;
-      some = e.some;
-      less = e.less;
-      are = omega (arith, ap length all, length-append (raw e.frames) e.part, frames_length (frame_bytes s.dims) e.frames e.begun.whole, e.count);
-    }
+    ends_inside (frame_bytes s.dims) extra e.frames e.part bytes e.begun.whole (all_read left bytes (raw e.frames ++ e.part) is e.begun.moved e.end) e.count e.fewer e.some e.less
 
 none_empty : (left held : Change) (bytes : List ℕ) → left.old ≡ Some bytes → WasEmpty left held → length bytes ≡ 0
 none_empty left held bytes is e = let all : [] ≡ bytes = all_read left bytes [] is e.moved e.end in ap length (sym all)
 
 many_long : (s : FlatSettings) (left held : Change) (bytes : List ℕ) → left.old ≡ Some bytes → WentOn s left held → most_frames * frame_bytes s.dims < length bytes
 many_long s left held bytes is e =
-    let size = frame_bytes s.dims in
-    let long = long_by left bytes (raw e.frames ++ e.next ∷ []) is e.begun.moved in
-    let total : length (raw e.frames) ≡ most_frames * size = frames_length size e.frames e.begun.whole ∙ ap (λ (n : ℕ). n * size) e.all in
-    omega (arith, long, total, length-append (raw e.frames) (e.next ∷ []))
+    goes_past (frame_bytes s.dims) e.next e.frames bytes e.begun.whole e.all (long_by left bytes (raw e.frames ++ e.next ∷ []) is e.begun.moved)
 
 -- ---- an input is of one kind
 
@@ -161,55 +168,50 @@ module _ (r : Run) (w : FlatWords) where
       → Yields r (FlatAnswer r w (length bytes))
   unfolding FlatStops coding_stopped
   stopped_at bytes told (Error.ShortFrame x) c t =
-      or_memory r (FlatAnswer r w (length bytes)) 4 (refusal (coding_stopped (Error.ShortFrame x)) r.status 4 r.report t refl refl)
+      or_memory r (FlatAnswer r w (length bytes)) (coding_stopped (Error.ShortFrame x)) 4 t refl refl
       (λ is. Yields.said (FlatAnswer.short c.passes (short_inside (settings_of w) r.input r.output bytes x told c.stops) is))
   stopped_at bytes told Error.NoFrames c t =
-      or_memory r (FlatAnswer r w (length bytes)) 5 (refusal (coding_stopped Error.NoFrames) r.status 5 r.report t refl refl)
+      or_memory r (FlatAnswer r w (length bytes)) (coding_stopped Error.NoFrames) 5 t refl refl
       (λ is. Yields.said (FlatAnswer.none c.passes (none_empty r.input r.output bytes told c.stops) is))
   stopped_at bytes told Error.TooManyFrames c t =
-      or_memory r (FlatAnswer r w (length bytes)) 6 (refusal (coding_stopped Error.TooManyFrames) r.status 6 r.report t refl refl)
+      or_memory r (FlatAnswer r w (length bytes)) (coding_stopped Error.TooManyFrames) 6 t refl refl
       (λ is. Yields.said (FlatAnswer.many c.passes (many_long (settings_of w) r.input r.output bytes told c.stops) is))
   stopped_at bytes told Error.Read c t =
-      or_memory r (FlatAnswer r w (length bytes)) 7 (refusal (coding_stopped Error.Read) r.status 7 r.report t refl refl) (λ is. Yields.read is c.stops.0)
+      read_told r t c.stops.0
   stopped_at bytes told Error.Write c t =
-      or_memory r (FlatAnswer r w (length bytes)) 8 (refusal (coding_stopped Error.Write) r.status 8 r.report t refl refl) (λ is. Yields.write is c.stops.0)
+      write_told r t c.stops.0
   stopped_at bytes told Error.Memory c t =
-      or_memory r (FlatAnswer r w (length bytes)) 12 (refusal (coding_stopped Error.Memory) r.status 12 r.report t refl refl) (λ is. Yields.memory is)
+      want_told r t
 
   answer_at : (bytes : List ℕ) → r.input.old ≡ Some bytes → (o : FlatOutcome) → FlatComes w r.input r.output o → Told (flat_ending o) r.status r.report → Yields r (FlatAnswer r w (length bytes))
   unfolding FlatComes flat_ending unfit_ending
   answer_at bytes told (Coded s) c t = done_answer (length bytes) s c.passes (done_frames (settings_of w) r.input r.output bytes s told c.coded) t
   answer_at bytes told (Unfit u) c t =
-      or_memory r (FlatAnswer r w (length bytes)) 3 (refusal (flat_ending (Unfit u)) r.status 3 r.report t refl refl) (λ is. Yields.said (FlatAnswer.unfit (fails_then u c.0) is))
+      or_memory r (FlatAnswer r w (length bytes)) (flat_ending (Unfit u)) 3 t refl refl (λ is. Yields.said (FlatAnswer.unfit (fails_then u c.0) is))
   answer_at bytes told (Stopped e) c t = stopped_at bytes told e c t
 
   -- whole frames leave no other answer
-  whole_answer : (bytes : ℕ) → WordsPass w → AreFrames (frame_bytes (settings_of w).dims) bytes → NoneFailed r → Yields r (FlatAnswer r w bytes) → Succeeds r
-  whole_answer bytes passes frames well (Yields.said (FlatAnswer.unfit fails is)) = absurd (fails passes)
-  whole_answer bytes passes frames well (Yields.said (FlatAnswer.ok p f is)) = inl is
-  whole_answer bytes passes frames well (Yields.said (FlatAnswer.unreported p f g is)) = absurd (well.report g)
-  whole_answer bytes passes frames well (Yields.said (FlatAnswer.short p f is)) = absurd (not_inside (frame_bytes (settings_of w).dims) bytes frames f)
-  whole_answer bytes passes frames well (Yields.said (FlatAnswer.none p f is)) = absurd (not_empty (frame_bytes (settings_of w).dims) bytes (some_bytes w passes) frames f)
-  whole_answer bytes passes frames well (Yields.said (FlatAnswer.many p f is)) = absurd (not_many (frame_bytes (settings_of w).dims) bytes frames f)
-  whole_answer bytes passes frames well (Yields.read is f) = absurd (well.input f)
-  whole_answer bytes passes frames well (Yields.write is f) = absurd (well.output f)
-  whole_answer bytes passes frames well (Yields.memory is) = inr is
+  whole_answer : (bytes : ℕ) → WordsPass w → AreFrames (frame_bytes (settings_of w).dims) bytes → NoneFailed r → FlatAnswer r w bytes → Succeeds r
+  whole_answer bytes passes frames well (FlatAnswer.unfit fails is) = absurd (fails passes)
+  whole_answer bytes passes frames well (FlatAnswer.ok p f is) = inl is
+  whole_answer bytes passes frames well (FlatAnswer.unreported p f g is) = absurd (well.report g)
+  whole_answer bytes passes frames well (FlatAnswer.short p f is) = absurd (not_inside (frame_bytes (settings_of w).dims) bytes frames f)
+  whole_answer bytes passes frames well (FlatAnswer.none p f is) = absurd (not_empty (frame_bytes (settings_of w).dims) bytes (some_bytes w passes) frames f)
+  whole_answer bytes passes frames well (FlatAnswer.many p f is) = absurd (not_many (frame_bytes (settings_of w).dims) bytes frames f)
+
+  keeps_with : (r.status ≡ 0 → Success (FlatDone w r.input r.output) flat_coded_ending r.report) → ((WordsPass w → ⊥) → RefusedBy 3 r)
+      → ((bytes : List ℕ) → r.input.old ≡ Some bytes → Yields r (FlatAnswer r w (length bytes))) → FlatKeeps w r
+  keeps_with done unfit answer = record {
+    done = done;
+    unfit = unfit;
+    answer = tells r.input (λ bytes. Yields r (FlatAnswer r w (length bytes))) answer;
+    coded = tells r.input (λ bytes. WordsPass w → AreFrames (frame_bytes (settings_of w).dims) (length bytes) → NoneFailed r → Succeeds r)
+        (λ bytes told passes frames well. well_answered r well (whole_answer (length bytes) passes frames well) (answer bytes told));
+  }
 
   pub flat_keeps : (o : FlatOutcome) → FlatComes w r.input r.output o → Told (flat_ending o) r.status r.report → r.recon.Unchanged → FlatKeeps w r
-  flat_keeps o c t k = record {
-    done = flat_done r w o c t;
-    unfit = unfit_at o c t k;
-    answer = tells r.input (λ bytes. Yields r (FlatAnswer r w (length bytes))) (λ bytes is. answer_at bytes is o c t);
-    coded = tells r.input (λ bytes. WordsPass w → AreFrames (frame_bytes (settings_of w).dims) (length bytes) → NoneFailed r → Succeeds r)
-        (λ bytes is passes frames well. whole_answer (length bytes) passes frames well (answer_at bytes is o c t));
-  }
+  flat_keeps o c t k = keeps_with (flat_done r w o c t) (unfit_at o c t k) (λ bytes told. answer_at bytes told o c t)
 
   -- where memory ran out before the words were read
   pub flat_unread : IsUntouched (work_of r) → r.status ≡ 12 → FlatKeeps w r
-  flat_unread untouched is = record {
-    done = no_success r is;
-    unfit = λ fails. (inr is, untouched);
-    answer = tells r.input (λ bytes. Yields r (FlatAnswer r w (length bytes))) (λ bytes told. Yields.memory is);
-    coded = tells r.input (λ bytes. WordsPass w → AreFrames (frame_bytes (settings_of w).dims) (length bytes) → NoneFailed r → Succeeds r)
-        (λ bytes told passes frames well. inr is);
-  }
+  flat_unread untouched is = keeps_with (no_success r is) (λ fails. (inr is, untouched)) (λ bytes told. Yields.memory is)

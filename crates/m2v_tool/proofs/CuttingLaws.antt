@@ -15,7 +15,7 @@ use Rattle.m2v_tool.specs.declared.cut.CutOutcome.TheVariants.{Done, NoneAsked, 
 use Rattle.m2v_tool.specs.Endings.{Told, whole, cut, unfit_ending}
 use Rattle.m2v_tool.specs.Cutting.{CutComes, none_asked, cutting_stopped, cut_out_ending, cut_ending, CutAnswer, CutKeeps}
 use Rattle.m2v_tool.specs.Runs.{Run, work_of, IsUntouched, Yields, RefusedBy, NoneFailed, Succeeds}
-use Rattle.m2v_tool.proofs.EndingLaws.{refusal, or_memory}
+use Rattle.m2v_tool.proofs.EndingLaws.{refusal, read_told, write_told, want_told, well_answered}
 use Rattle.m2v_tool.proofs.DoneLaws.{cut_done, no_success}
 
 module _ (r : Run) (w : CutWords) where
@@ -41,8 +41,8 @@ module _ (r : Run) (w : CutWords) where
 
     stopped_as : (e : CutError) → Fails w.from w.count r.input r.output e → Told (cutting_stopped e) r.status r.report → Yields r Said
     unfolding cutting_stopped
-    stopped_as errors.Read c t = or_memory r Said 7 (refusal (cutting_stopped errors.Read) r.status 7 r.report t refl refl) (λ is. Yields.read is c.0)
-    stopped_as errors.Write c t = or_memory r Said 8 (refusal (cutting_stopped errors.Write) r.status 8 r.report t refl refl) (λ is. Yields.write is c.0)
+    stopped_as errors.Read c t = read_told r t c.0
+    stopped_as errors.Write c t = write_told r t c.0
     stopped_as (errors.NoGroup have need) c t =
         let i = of_text r.input (λ bytes. IsRefused bytes w.from w.count r.output (errors.NoGroup have need)) text told c in
         Yields.said (refused_as (errors.NoGroup have need) i.answer t)
@@ -55,7 +55,7 @@ module _ (r : Run) (w : CutWords) where
     stopped_as errors.PictureTooLarge c t =
         let i = of_text r.input (λ bytes. IsOver bytes w.from w.count r.output errors.PictureTooLarge) text told c in
         Yields.said (refused_as errors.PictureTooLarge i.answer t)
-    stopped_as errors.Memory c t = or_memory r Said 12 (refusal (cutting_stopped errors.Memory) r.status 12 r.report t refl refl) (λ is. Yields.memory is)
+    stopped_as errors.Memory c t = want_told r t
 
     answer_at : (o : CutOutcome) → 1 ≤ w.count → CutComes w r.input r.output o → Told (cut_ending o) r.status r.report → Yields r Said
     unfolding CutComes cut_ending
@@ -63,13 +63,10 @@ module _ (r : Run) (w : CutWords) where
     answer_at NoneAsked some c t = absurd (omega (arith, some, c.0))
     answer_at (Stopped e) some c t = stopped_as e c.1 t
 
-    cut_as : (s : CutSummary) → (a : Result CutSummary CutError) → a ≡ Ok s → NoneFailed r → Yields r (CutAnswer r w text a) → Succeeds r
-    cut_as s a is well (Yields.said (CutAnswer.ok zero g h)) = inl zero
-    cut_as s a is well (Yields.said (CutAnswer.unreported eight f g)) = absurd (well.report f)
-    cut_as s a is well (Yields.said (CutAnswer.refused t)) = absurd cc
-    cut_as s a is well (Yields.read seven f) = absurd (well.input f)
-    cut_as s a is well (Yields.write eight f) = absurd (well.output f)
-    cut_as s a is well (Yields.memory twelve) = inr twelve
+    cut_as : (s : CutSummary) → (a : Result CutSummary CutError) → a ≡ Ok s → NoneFailed r → CutAnswer r w text a → Succeeds r
+    cut_as s a is well (CutAnswer.ok zero g h) = inl zero
+    cut_as s a is well (CutAnswer.unreported eight f g) = absurd (well.report f)
+    cut_as s a is well (CutAnswer.refused t) = absurd cc
 
   decodes_by : Tells r.input (λ text. CutDecodes text w.from w.count)
   decodes_by = tells r.input (λ text. CutDecodes text w.from w.count) (λ text told. cut_law text w.from w.count)
@@ -80,7 +77,7 @@ module _ (r : Run) (w : CutWords) where
     unfit = unfit_at o c t k;
     answer = λ some. tells r.input (λ text. Yields r (CutAnswer r w text (answer_to text w.from w.count))) (λ text told. answer_at text told o some c t);
     cut = λ some. tells r.input (λ text. (s : CutSummary) → answer_to text w.from w.count ≡ Ok s → NoneFailed r → Succeeds r)
-        (λ text told s is well. cut_as text told s (answer_to text w.from w.count) is well (answer_at text told o some c t));
+        (λ text told s is well. well_answered r well (cut_as text told s (answer_to text w.from w.count) is well) (answer_at text told o some c t));
     decodes = decodes_by;
   }
 

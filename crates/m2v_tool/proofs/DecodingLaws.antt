@@ -19,7 +19,7 @@ use Rattle.m2v_tool.specs.declared.decode.DecodeOutcome.TheVariants.{Shown, Unfi
 use Rattle.m2v_tool.specs.Endings.{Told, whole, cut, line_of, unfit_ending, stream_fault, ending_past}
 use Rattle.m2v_tool.specs.Decoding.{WorkersPass, WorkersFail, DecodeComes, decoding_stopped, shown_ending, decode_ending, Past, Showed, Refused, StreamKeeps, DecodeKeeps}
 use Rattle.m2v_tool.specs.Runs.{Run, work_of, IsUntouched, Yields, RefusedBy, NoneFailed, Succeeds}
-use Rattle.m2v_tool.proofs.EndingLaws.{refusal, or_memory}
+use Rattle.m2v_tool.proofs.EndingLaws.{refusal, or_memory, read_told, write_told, want_told, well_answered}
 use Rattle.m2v_tool.proofs.DoneLaws.{decode_done, no_success}
 
 -- ---- workers
@@ -49,25 +49,25 @@ module _ (r : Run) (text : List ℕ) (told : r.input.old ≡ Some text) where
   long_at : (Answer : Type 0) → IsOver text r.output errors.TooLong → Told (decoding_stopped errors.TooLong) r.status r.report → (Past r text too_long → Answer) → Yields r Answer
   unfolding decoding_stopped ending_past
   long_at Answer i t f =
-      or_memory r Answer 13 (refusal (ending_past too_long) r.status 13 r.report t refl refl) (λ is. Yields.said (f (record { status = is; over = i; told = t })))
+      or_memory r Answer (ending_past too_long) 13 t refl refl (λ is. Yields.said (f (record { status = is; over = i; told = t })))
 
   large_at : (Answer : Type 0) → IsOver text r.output errors.PictureTooLarge → Told (decoding_stopped errors.PictureTooLarge) r.status r.report → (Past r text too_large → Answer) → Yields r Answer
   unfolding decoding_stopped ending_past
   large_at Answer i t f =
-      or_memory r Answer 14 (refusal (ending_past too_large) r.status 14 r.report t refl refl) (λ is. Yields.said (f (record { status = is; over = i; told = t })))
+      or_memory r Answer (ending_past too_large) 14 t refl refl (λ is. Yields.said (f (record { status = is; over = i; told = t })))
 
   -- an endpoint or memory failed
   read_at : (Answer : Type 0) → Fails r.input r.output errors.Read → Told (decoding_stopped errors.Read) r.status r.report → Yields r Answer
   unfolding decoding_stopped
-  read_at Answer c t = or_memory r Answer 7 (refusal (decoding_stopped errors.Read) r.status 7 r.report t refl refl) (λ is. Yields.read is c.0)
+  read_at Answer c t = read_told r t c.0
 
   write_at : (Answer : Type 0) → Fails r.input r.output errors.Write → Told (decoding_stopped errors.Write) r.status r.report → Yields r Answer
   unfolding decoding_stopped
-  write_at Answer c t = or_memory r Answer 8 (refusal (decoding_stopped errors.Write) r.status 8 r.report t refl refl) (λ is. Yields.write is c.0)
+  write_at Answer c t = write_told r t c.0
 
   memory_at : (Answer : Type 0) → Told (decoding_stopped errors.Memory) r.status r.report → Yields r Answer
   unfolding decoding_stopped
-  memory_at Answer t = or_memory r Answer 12 (refusal (decoding_stopped errors.Memory) r.status 12 r.report t refl refl) (λ is. Yields.memory is)
+  memory_at Answer t = want_told r t
 
   module _ (frames : List (List ℕ)) (d : Decodes text frames) where
     told_shown : (n : Decoded) → n ≡ counted d → AllFit (start_of text) (pieces text) → Grows r.output.old (raw frames) r.output.new → Told (shown_ending n) r.status r.report → Yields r (Showed r d)
@@ -97,19 +97,16 @@ module _ (r : Run) (text : List ℕ) (told : r.input.old ≡ Some text) where
     shows_at workers (Stopped e) passes c t = stopped_shows e c.1 t
 
     -- under the limits, and with no count that rose
-    whole_shown : IsUnderLimits text → NoneFailed r → Yields r (Showed r d) → Succeeds r
-    whole_shown under well (Yields.said (Showed.shown is fit grown line)) = inl is
-    whole_shown under well (Yields.said (Showed.unreported is rose fit grown line)) = absurd (well.report rose)
-    whole_shown under well (Yields.said (Showed.past l over past)) = absurd (over under)
-    whole_shown under well (Yields.read is rose) = absurd (well.input rose)
-    whole_shown under well (Yields.write is rose) = absurd (well.output rose)
-    whole_shown under well (Yields.memory is) = inr is
+    whole_shown : IsUnderLimits text → NoneFailed r → Showed r d → Succeeds r
+    whole_shown under well (Showed.shown is fit grown line) = inl is
+    whole_shown under well (Showed.unreported is rose fit grown line) = absurd (well.report rose)
+    whole_shown under well (Showed.past l over past) = absurd (over under)
 
   module _ (f : Fault) where
     told_fault : (g : Fault) → g ≡ f → IsFaulty text r.output g → Told (stream_fault g) r.status r.report → Yields r (Refused r text f)
     unfolding stream_fault
     told_fault g same i t =
-        or_memory r (Refused r text f) 9 (refusal (stream_fault g) r.status 9 r.report t refl refl)
+        or_memory r (Refused r text f) (stream_fault g) 9 t refl refl
         (λ is. Yields.said (Refused.fault is (subst (IsFaulty text r.output) same i) (subst (λ (h : Fault). Told (stream_fault h) r.status r.report) same t)))
 
     stopped_refuses : (e : DecodeError) → FaultAt text f.place f.kind → Fails r.input r.output e → Told (decoding_stopped e) r.status r.report → Yields r (Refused r text f)
@@ -183,7 +180,7 @@ module _ (r : Run) (workers : ℕ) where
     over = tells r.input (λ text. (l : Limit) → IsPast text l → Yields r (Past r text l)) (λ text is l past. past_at r text is l past workers o passes c t);
     late = tells r.input (λ text. IsLate text → Yields r (Past r text too_long)) (λ text is late. late_at r text is late workers o passes c t);
     decoded = tells r.input (λ text. (frames : List (List ℕ)) → Decodes text frames → IsUnderLimits text → NoneFailed r → Succeeds r)
-        (λ text is frames d under well. whole_shown r text is frames d under well (shows_at r text is frames d workers o passes c t));
+        (λ text is frames d under well. well_answered r well (whole_shown r text is frames d under well) (shows_at r text is frames d workers o passes c t));
   }
 
   pub decode_keeps : (o : DecodeOutcome) → DecodeComes workers r.input r.output o → Told (decode_ending o) r.status r.report → r.recon.Unchanged → DecodeKeeps workers r

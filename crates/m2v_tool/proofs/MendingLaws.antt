@@ -32,7 +32,7 @@ use Rattle.m2v_tool.specs.Endings.{Told, Success, unopened_ending, ending_past}
 use Rattle.m2v_tool.specs.Mending.{MendShut, MendComes, told_ending, mended_ending, mending_stopped, mend_ending, MendAnswer, MendDone, MendKeeps}
 use Rattle.m2v_tool.specs.Places.{opened, recon_by}
 use Rattle.m2v_tool.specs.Runs.{Run, work_of, Yields, NoneFailed, Succeeds}
-use Rattle.m2v_tool.proofs.EndingLaws.{refusal, or_memory, memory_told}
+use Rattle.m2v_tool.proofs.EndingLaws.{or_memory, read_told, want_told, memory_told}
 use Rattle.m2v_tool.proofs.PlaceLaws.{grown_from, prefix_from, failed_by}
 use Rattle.m2v_tool.proofs.DoneLaws.{mend_done, all_told, no_success}
 
@@ -91,23 +91,23 @@ module _ (r : Run) (name : Option Text) where
 
     stopped_as : (e : MendError) → Fails r.input r.output list e → Told (mending_stopped e) r.status r.report → Yields r Said
     unfolding mending_stopped
-    stopped_as errors.Read c t = or_memory r Said 7 (refusal (mending_stopped errors.Read) r.status 7 r.report t refl refl) (λ is. Yields.read is c.0)
+    stopped_as errors.Read c t = read_told r t c.0
     stopped_as errors.Write c t =
-        or_memory r Said 8 (refusal (mending_stopped errors.Write) r.status 8 r.report t refl refl)
+        or_memory r Said (mending_stopped errors.Write) 8 t refl refl
         (λ is. elim c.0 [
           | inl output ↦ Yields.write is output
           | inr recon ↦ Yields.said (MendAnswer.recon recon is)
         ])
     stopped_as errors.TooLong c t = Yields.said (over_as too_long (of_text r.input (λ bytes. IsOver bytes r.output list too_long) text told c) t)
     stopped_as errors.PictureTooLarge c t = Yields.said (over_as too_large (of_text r.input (λ bytes. IsOver bytes r.output list too_large) text told c) t)
-    stopped_as errors.Memory c t = or_memory r Said 12 (refusal (mending_stopped errors.Memory) r.status 12 r.report t refl refl) (λ is. Yields.memory is)
+    stopped_as errors.Memory c t = want_told r t
 
     shut_as : (e : PortError) → MendShut name (work_of r) e → Told (unopened_ending e) r.status r.report → Yields r Said
     unfolding unopened_ending
     shut_as calls.Failed c t =
-        or_memory r Said 8 (refusal (unopened_ending calls.Failed) r.status 8 r.report t refl refl)
+        or_memory r Said (unopened_ending calls.Failed) 8 t refl refl
         (λ is. Yields.said (MendAnswer.recon (failed_by name r.recon c.named c.shut.0) is))
-    shut_as calls.Memory c t = or_memory r Said 12 (refusal (unopened_ending calls.Memory) r.status 12 r.report t refl refl) (λ is. Yields.memory is)
+    shut_as calls.Memory c t = want_told r t
 
     answer_at : (o : MendOutcome) → MendComes name (work_of r) o → Told (mend_ending o) r.status r.report → Yields r Said
     unfolding MendComes mend_ending

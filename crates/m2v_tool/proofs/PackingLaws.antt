@@ -1,5 +1,5 @@
 -- What follows from what `pack` and `unpack` did and what was told of them.
-use Rattle.std.proofs.Common.{◌≡◌, inl, inr, ℕ, ◌*◌, ◌<◌, ◌≤◌, List, [], ◌∷◌, ◌++◌, length, Option, Some, Result, Ok, Err, IfSome, refl, sym, ap, subst, ◌∙◌, arith, length-append}
+use Rattle.std.proofs.Common.{◌≡◌, inl, inr, ℕ, ◌*◌, ◌<◌, ◌≤◌, List, [], ◌∷◌, ◌++◌, length, Option, Some, Result, Ok, Err, IfSome, refl, sym, ap, subst, ◌∙◌}
 use Rattle.m2v_port.specs.Ends.{Change, Tells}
 use Rattle.m2v_port.specs.Port.{Grows}
 use Rattle.m2v_port.proofs.Runs.{tells}
@@ -21,13 +21,13 @@ use Rattle.m2v_tool.specs.declared.pack.PackOutcome.{PackOutcome}
 use Rattle.m2v_tool.specs.declared.pack.PackOutcome.TheVariants as packs
 use Rattle.m2v_tool.specs.declared.unpack.UnpackOutcome.{UnpackOutcome}
 use Rattle.m2v_tool.specs.declared.unpack.UnpackOutcome.TheVariants as unpacks
-use Rattle.m2v_tool.specs.Endings.{Told, whole, cut, line_of, unfit_ending, short_frame, too_many_frames}
+use Rattle.m2v_tool.specs.Endings.{Success, Told, whole, cut, line_of, unfit_ending, short_frame, too_many_frames}
 use Rattle.m2v_tool.specs.Inputs.{AreFew, EndInside}
-use Rattle.m2v_tool.specs.Packing.{PackComes, packed_ending, packing_stopped, unpacking_stopped, pack_ending, unpack_ending, y4m_fault, PackAnswer, PackKeeps, UnpackComes, numbers_of, UnpackDone, Says, UnpackKeeps}
+use Rattle.m2v_tool.specs.Packing.{PackDone, PackComes, packed_ending, packing_stopped, unpacking_stopped, pack_ending, unpack_ending, y4m_fault, PackAnswer, PackKeeps, UnpackComes, numbers_of, UnpackDone, Says, UnpackKeeps}
 use Rattle.m2v_tool.specs.Runs.{Run, work_of, IsUntouched, Yields, RefusedBy, NoneFailed, Succeeds}
-use Rattle.m2v_tool.proofs.EndingLaws.{refusal, or_memory}
+use Rattle.m2v_tool.proofs.EndingLaws.{refusal, or_memory, read_told, write_told, want_told, well_answered}
 use Rattle.m2v_tool.proofs.DoneLaws.{pack_done, unpack_done, no_success}
-use Rattle.m2v_tool.proofs.CodingLaws.{frames_length, all_read, long_by, not_inside_of, not_many_of}
+use Rattle.m2v_tool.proofs.CodingLaws.{ends_inside, goes_past, frames_length, all_read, long_by, not_inside_of, not_many_of}
 
 -- ---- how many bytes an input had
 
@@ -38,22 +38,11 @@ packed_frames h left held bytes s is c =
 
 short_inside : (h : Y4mHeader) (left held : Change) (bytes : List ℕ) (extra : ℕ) → left.old ≡ Some bytes → PackEndedShort h left held extra → EndInside (size_of h) (length bytes)
 short_inside h left held bytes extra is e =
-    let all : raw e.frames ++ e.part ≡ bytes = all_read left bytes (raw e.frames ++ e.part) is e.before.moved e.end in
-    record {
-      frames = length e.frames;
-      extra = extra;
-      fewer = e.fewer;
-      some = e.some;
-      less = e.less;
-      are = omega (arith, ap length all, length-append (raw e.frames) e.part, frames_length (size_of h) e.frames e.before.whole, e.count);
-    }
+    ends_inside (size_of h) extra e.frames e.part bytes e.before.whole (all_read left bytes (raw e.frames ++ e.part) is e.before.moved e.end) e.count e.fewer e.some e.less
 
 many_long : (h : Y4mHeader) (left held : Change) (bytes : List ℕ) → left.old ≡ Some bytes → PackWentOn h left held → most_frames * size_of h < length bytes
 many_long h left held bytes is e =
-    let size = size_of h in
-    let long = long_by left bytes (raw e.frames ++ e.next ∷ []) is e.before.moved in
-    let total : length (raw e.frames) ≡ most_frames * size = frames_length size e.frames e.before.whole ∙ ap (λ (n : ℕ). n * size) e.all in
-    omega (arith, long, total, length-append (raw e.frames) (e.next ∷ []))
+    goes_past (size_of h) e.next e.frames bytes e.before.whole e.all (long_by left bytes (raw e.frames ++ e.next ∷ []) is e.before.moved)
 
 -- ---- what was told of packing
 
@@ -77,53 +66,49 @@ module _ (r : Run) (h : Y4mHeader) where
       → Yields r (PackAnswer r h (length bytes))
   unfolding PackStops packing_stopped
   stopped_at bytes told (packing.ShortFrame x) passes c t =
-      or_memory r (PackAnswer r h (length bytes)) 4 (refusal (packing_stopped (packing.ShortFrame x)) r.status 4 r.report t refl refl)
+      or_memory r (PackAnswer r h (length bytes)) (packing_stopped (packing.ShortFrame x)) 4 t refl refl
       (λ is. Yields.said (PackAnswer.short passes (short_inside h r.input r.output bytes x told c) is))
   stopped_at bytes told packing.TooManyFrames passes c t =
-      or_memory r (PackAnswer r h (length bytes)) 6 (refusal (packing_stopped packing.TooManyFrames) r.status 6 r.report t refl refl)
+      or_memory r (PackAnswer r h (length bytes)) (packing_stopped packing.TooManyFrames) 6 t refl refl
       (λ is. Yields.said (PackAnswer.many passes (many_long h r.input r.output bytes told c) is))
   stopped_at bytes told packing.Read passes c t =
-      or_memory r (PackAnswer r h (length bytes)) 7 (refusal (packing_stopped packing.Read) r.status 7 r.report t refl refl) (λ is. Yields.read is c.0)
+      read_told r t c.0
   stopped_at bytes told packing.Write passes c t =
-      or_memory r (PackAnswer r h (length bytes)) 8 (refusal (packing_stopped packing.Write) r.status 8 r.report t refl refl) (λ is. Yields.write is c.0)
+      write_told r t c.0
   stopped_at bytes told packing.Memory passes c t =
-      or_memory r (PackAnswer r h (length bytes)) 12 (refusal (packing_stopped packing.Memory) r.status 12 r.report t refl refl) (λ is. Yields.memory is)
+      want_told r t
 
   answer_at : (bytes : List ℕ) → r.input.old ≡ Some bytes → (o : PackOutcome) → PackComes h r.input r.output o → Told (pack_ending o) r.status r.report → Yields r (PackAnswer r h (length bytes))
   unfolding PackComes pack_ending unfit_ending
   answer_at bytes told (packs.Packed s) c t = done_answer (length bytes) s c.0 (packed_frames h r.input r.output bytes s told c.1) t
   answer_at bytes told (packs.Unfit u) c t =
-      or_memory r (PackAnswer r h (length bytes)) 3 (refusal (pack_ending (packs.Unfit u)) r.status 3 r.report t refl refl) (λ is. Yields.said (PackAnswer.unfit (fails_then u c.0) is))
+      or_memory r (PackAnswer r h (length bytes)) (pack_ending (packs.Unfit u)) 3 t refl refl (λ is. Yields.said (PackAnswer.unfit (fails_then u c.0) is))
   answer_at bytes told (packs.Stopped e) c t = stopped_at bytes told e c.0 c.1 t
 
   -- whole frames leave no other answer
-  whole_answer : (bytes : ℕ) → Passes h → AreFew (size_of h) bytes → NoneFailed r → Yields r (PackAnswer r h bytes) → Succeeds r
-  whole_answer bytes passes frames well (Yields.said (PackAnswer.unfit fails is)) = absurd (fails passes)
-  whole_answer bytes passes frames well (Yields.said (PackAnswer.ok p f is)) = inl is
-  whole_answer bytes passes frames well (Yields.said (PackAnswer.unreported p f g is)) = absurd (well.report g)
-  whole_answer bytes passes frames well (Yields.said (PackAnswer.short p f is)) = absurd (not_inside_of (size_of h) bytes frames.frames frames.are f)
-  whole_answer bytes passes frames well (Yields.said (PackAnswer.many p f is)) = absurd (not_many_of (size_of h) bytes frames.frames frames.most frames.are f)
-  whole_answer bytes passes frames well (Yields.read is f) = absurd (well.input f)
-  whole_answer bytes passes frames well (Yields.write is f) = absurd (well.output f)
-  whole_answer bytes passes frames well (Yields.memory is) = inr is
+  whole_answer : (bytes : ℕ) → Passes h → AreFew (size_of h) bytes → NoneFailed r → PackAnswer r h bytes → Succeeds r
+  whole_answer bytes passes frames well (PackAnswer.unfit fails is) = absurd (fails passes)
+  whole_answer bytes passes frames well (PackAnswer.ok p f is) = inl is
+  whole_answer bytes passes frames well (PackAnswer.unreported p f g is) = absurd (well.report g)
+  whole_answer bytes passes frames well (PackAnswer.short p f is) = absurd (not_inside_of (size_of h) bytes frames.frames frames.are f)
+  whole_answer bytes passes frames well (PackAnswer.many p f is) = absurd (not_many_of (size_of h) bytes frames.frames frames.most frames.are f)
+
+  keeps_with : (r.status ≡ 0 → Success (PackDone h r.input r.output) packed_ending r.report) → ((Passes h → ⊥) → RefusedBy 3 r)
+      → ((bytes : List ℕ) → r.input.old ≡ Some bytes → Yields r (PackAnswer r h (length bytes))) → PackKeeps h r
+  keeps_with done unfit answer = record {
+    done = done;
+    unfit = unfit;
+    answer = tells r.input (λ bytes. Yields r (PackAnswer r h (length bytes))) answer;
+    packed = tells r.input (λ bytes. Passes h → AreFew (size_of h) (length bytes) → NoneFailed r → Succeeds r)
+        (λ bytes told passes frames well. well_answered r well (whole_answer (length bytes) passes frames well) (answer bytes told));
+  }
 
   pub pack_keeps : (o : PackOutcome) → PackComes h r.input r.output o → Told (pack_ending o) r.status r.report → r.recon.Unchanged → PackKeeps h r
-  pack_keeps o c t k = record {
-    done = pack_done r h o c t;
-    unfit = unfit_at o c t k;
-    answer = tells r.input (λ bytes. Yields r (PackAnswer r h (length bytes))) (λ bytes is. answer_at bytes is o c t);
-    packed = tells r.input (λ bytes. Passes h → AreFew (size_of h) (length bytes) → NoneFailed r → Succeeds r)
-        (λ bytes is passes frames well. whole_answer (length bytes) passes frames well (answer_at bytes is o c t));
-  }
+  pack_keeps o c t k = keeps_with (pack_done r h o c t) (unfit_at o c t k) (λ bytes told. answer_at bytes told o c t)
 
   -- where memory ran out before the words were read
   pub pack_unread : IsUntouched (work_of r) → r.status ≡ 12 → PackKeeps h r
-  pack_unread untouched is = record {
-    done = no_success r is;
-    unfit = λ fails. (inr is, untouched);
-    answer = tells r.input (λ bytes. Yields r (PackAnswer r h (length bytes))) (λ bytes told. Yields.memory is);
-    packed = tells r.input (λ bytes. Passes h → AreFew (size_of h) (length bytes) → NoneFailed r → Succeeds r) (λ bytes told passes frames well. inr is);
-  }
+  pack_unread untouched is = keeps_with (no_success r is) (λ fails. (inr is, untouched)) (λ bytes told. Yields.memory is)
 
 -- ---- what was told of unpacking
 
@@ -136,12 +121,12 @@ module _ (r : Run) where
   -- an endpoint or memory failed
   hindered_at : (Answer : Type 0) (e : UnpackError) → Hindered r.input r.output e → Told (unpacking_stopped e) r.status r.report → Yields r Answer
   unfolding Hindered unpacking_stopped
-  hindered_at Answer unpacking.Read f t = or_memory r Answer 7 (refusal (unpacking_stopped unpacking.Read) r.status 7 r.report t refl refl) (λ is. Yields.read is f)
-  hindered_at Answer unpacking.Write f t = or_memory r Answer 8 (refusal (unpacking_stopped unpacking.Write) r.status 8 r.report t refl refl) (λ is. Yields.write is f)
+  hindered_at Answer unpacking.Read f t = read_told r t f
+  hindered_at Answer unpacking.Write f t = write_told r t f
   hindered_at Answer (unpacking.ShortFrame extra) f t = absurd f
   hindered_at Answer unpacking.TooManyFrames f t = absurd f
   hindered_at Answer (unpacking.Y4m fault) f t = absurd f
-  hindered_at Answer unpacking.Memory f t = or_memory r Answer 12 (refusal (unpacking_stopped unpacking.Memory) r.status 12 r.report t refl refl) (λ is. Yields.memory is)
+  hindered_at Answer unpacking.Memory f t = want_told r t
 
   told_done : (frames : List (List ℕ)) (s : PackSummary) → s ≡ numbers_of frames → Grows r.output.old (raw frames) r.output.new → Told (packed_ending s) r.status r.report
       → Yields r (UnpackDone r frames)
@@ -199,12 +184,9 @@ module _ (r : Run) where
         → Says r (y4m_fault f)
     fault_by h frames f are is few = fault_said f (error_at (unpacking.Y4m f) o (of_text.fault h frames f are is few) t)
 
-    succeeds_by : (h : Y4mHeader) (frames : List (List ℕ)) → NoneFailed r → Yields r (UnpackDone r frames) → Succeeds r
-    succeeds_by h frames well (Yields.said (UnpackDone.ok is grown g)) = inl is
-    succeeds_by h frames well (Yields.said (UnpackDone.unreported is rose grown)) = absurd (well.report rose)
-    succeeds_by h frames well (Yields.read is f) = absurd (well.input f)
-    succeeds_by h frames well (Yields.write is f) = absurd (well.output f)
-    succeeds_by h frames well (Yields.memory is) = inr is
+    succeeds_by : (h : Y4mHeader) (frames : List (List ℕ)) → NoneFailed r → UnpackDone r frames → Succeeds r
+    succeeds_by h frames well (UnpackDone.ok is grown g) = inl is
+    succeeds_by h frames well (UnpackDone.unreported is rose grown) = absurd (well.report rose)
 
   pub unpack_keeps : (o : UnpackOutcome) → UnpackComes r.input r.output o → Told (unpack_ending o) r.status r.report → UnpackKeeps r
   unpack_keeps o c t = record {
@@ -217,7 +199,7 @@ module _ (r : Run) where
     fault = tells r.input (λ text. (h : Y4mHeader) (frames : List (List ℕ)) (f : Y4mFault) → AreWhole h frames → Begins text h (record { raw = raw frames; fault = Some f })
         → length frames ≤ most_frames → Says r (y4m_fault f)) (fault_by o c t);
     unpacked = tells r.input (λ text. (h : Y4mHeader) (frames : List (List ℕ)) → Y4m text h frames → length frames ≤ most_frames → NoneFailed r → Succeeds r)
-        (λ text told h frames is few well. succeeds_by o c t text told h frames well (frames_by o c t text told h frames is few));
+        (λ text told h frames is few well. well_answered r well (succeeds_by o c t text told h frames well) (frames_by o c t text told h frames is few));
   }
 
   -- where memory ran out before the words were read

@@ -19,7 +19,8 @@ use Rattle.m2v_set.specs.declared.unfit.Unfit.{Unfit}
 use Rattle.m2v_make.specs.m2v_encode.declared.answer.Summary.{Summary}
 use Rattle.m2v_make.specs.m2v_encode.declared.answer.EncodeError.{EncodeError}
 use Rattle.m2v_make.specs.m2v_encode.declared.answer.EncodeError.TheVariants as errors
-use Rattle.m2v_make.specs.m2v_encode.Answers.{AllCoded, Stops, Unended, CutOff, FailedInside, EndedShort, WasEmpty, WentOn, most_frames}
+use Rattle.m2v_make.specs.m2v_encode.Answers.{AllCoded, Stops, FailedInside, EndedShort, WasEmpty, WentOn, most_frames}
+use Rattle.m2v_make.proofs.m2v_encode.Alike.{TellAlike, begun_alike, coded_alike, stops_alike}
 use Rattle.m2v_y4m.specs.declared.answer.Y4mFault.{Y4mFault}
 use Rattle.m2v_y4m.specs.declared.answer.Y4mError.{Y4mError}
 use Rattle.m2v_y4m.specs.declared.answer.Y4mError.TheVariants as opening_errors
@@ -44,10 +45,10 @@ use Rattle.m2v_tool.specs.Packing.{Says, y4m_fault}
 use Rattle.m2v_tool.specs.Y4mWords.{with_header}
 use Rattle.m2v_tool.specs.Y4mCoding.{Behind, frames_change, frames_work, BrokenOff, FramesCome, read_behind, Y4mComes, unread_ending, y4m_ending, Y4mAnswer, Y4mKeeps}
 use Rattle.m2v_tool.specs.Runs.{Run, Work, Place, work_of, IsUntouched, Yields, NoneFailed, Succeeds}
-use Rattle.m2v_tool.proofs.EndingLaws.{refusal, or_memory}
+use Rattle.m2v_tool.proofs.EndingLaws.{or_memory, read_told, want_told, well_answered}
 use Rattle.m2v_tool.proofs.PlaceLaws.{failed_of}
 use Rattle.m2v_tool.proofs.DoneLaws.{text_done, no_success}
-use Rattle.m2v_tool.proofs.CodingLaws.{frames_length, all_read, not_inside, not_empty, not_many}
+use Rattle.m2v_tool.proofs.CodingLaws.{ends_inside, frames_length, all_read, not_inside, not_empty, not_many}
 use Rattle.m2v_tool.proofs.EncodingLaws.{least_step}
 
 -- ---- what a list ends in
@@ -165,17 +166,7 @@ module _ (s : Settings) (c : Coming) (left output recon : Change) (told : left.o
   short_inside extra e =
       let all : raw e.frames ++ e.part ≡ left_of c = all_read left (left_of c) (raw e.frames ++ e.part) told e.begun.moved e.end in
       let none : c.fault ≡ None = unmarked e.frames e.part all (omega (arith, e.some, e.count)) e.bytes in
-      let long : length (raw e.frames ++ e.part) ≡ length c.raw = ap length (all ∙ left_none c none) in (
-        none,
-        record {
-          frames = length e.frames;
-          extra = extra;
-          fewer = e.fewer;
-          some = e.some;
-          less = e.less;
-          are = omega (arith, long, length-append (raw e.frames) e.part, frames_length (frame_bytes (dims_of s)) e.frames e.begun.whole, e.count);
-        },
-      )
+      (none, ends_inside (frame_bytes (dims_of s)) extra e.frames e.part c.raw e.begun.whole (all ∙ left_none c none) e.count e.fewer e.some e.less)
 
   none_empty : WasEmpty left output recon → (c.fault ≡ None) × (length c.raw ≡ 0)
   none_empty e = by_fault c.fault refl
@@ -235,10 +226,10 @@ module _ (r : Run) (text : List ℕ) (told : r.input.old ≡ Some text) where
   unread_at : (Answer : Type 0) (e : Y4mError) → OpenStops r.input e → Told (unread_ending e) r.status r.report
       → ((f : Y4mFault) → opening text ≡ Err f → Told (y4m_fault f) r.status r.report → Yields r Answer) → Yields r Answer
   unfolding OpenStops unread_ending
-  unread_at Answer opening_errors.Read c t by = or_memory r Answer 7 (refusal (unread_ending opening_errors.Read) r.status 7 r.report t refl refl) (λ is. Yields.read is c.0)
+  unread_at Answer opening_errors.Read c t by = read_told r t c.0
   unread_at Answer (opening_errors.Y4m f) c t by =
       by f (subst (λ (o : Option (List ℕ)). IfSome o (λ text. opening text ≡ Err f)) told c.0) t
-  unread_at Answer opening_errors.Memory c t by = or_memory r Answer 12 (refusal (unread_ending opening_errors.Memory) r.status 12 r.report t refl refl) (λ is. Yields.memory is)
+  unread_at Answer opening_errors.Memory c t by = want_told r t
 
   -- a header line that is broken
   module _ (m : Meant) (f : Y4mFault) (is : opening text ≡ Err f) where
@@ -275,7 +266,7 @@ module _ (r : Run) (text : List ℕ) (told : r.input.old ≡ Some text) where
         → Yields r (r.status ≡ 3) × k.output.Unchanged × k.recon.Unchanged
     unfolding EncodeComes encode_ending unfit_ending
     unfit_by n k (Coded s) c t fails = absurd (fails c.passes)
-    unfit_by n k (NotFit x) c t fails = (or_memory r (r.status ≡ 3) 3 (refusal (encode_ending (NotFit x)) r.status 3 r.report t refl refl) (λ is. Yields.said is), c.2, c.3)
+    unfit_by n k (NotFit x) c t fails = (or_memory r (r.status ≡ 3) (encode_ending (NotFit x)) 3 t refl refl (λ is. Yields.said is), c.2, c.3)
     unfit_by n k (Unopened e) c t fails = absurd (fails c.passes)
     unfit_by n k (Stopped e) c t fails = absurd (fails c.passes)
 
@@ -310,38 +301,38 @@ module _ (r : Run) (n : Meant) (c : Coming) (left : Change) (told : left.old ≡
   stopped_at : (e : EncodeError) → EncodeStopped n work e → Told (encoding_stopped e) r.status r.report → Yields r (Y4mAnswer r n c)
   unfolding Stops encoding_stopped
   stopped_at (errors.ShortFrame x) s t =
-      or_memory r (Y4mAnswer r n c) 4 (refusal (encoding_stopped (errors.ShortFrame x)) r.status 4 r.report t refl refl)
+      or_memory r (Y4mAnswer r n c) (encoding_stopped (errors.ShortFrame x)) 4 t refl refl
       (λ is. let i = short_inside n.settings c left r.output (recon_by n.recon r.recon) told are x s.stops in Yields.said (Y4mAnswer.short s.passes i.0 i.1 is))
   stopped_at errors.NoFrames s t =
-      or_memory r (Y4mAnswer r n c) 5 (refusal (encoding_stopped errors.NoFrames) r.status 5 r.report t refl refl)
+      or_memory r (Y4mAnswer r n c) (encoding_stopped errors.NoFrames) 5 t refl refl
       (λ is. let i = none_empty n.settings c left r.output (recon_by n.recon r.recon) told are s.stops in Yields.said (Y4mAnswer.none s.passes i.0 i.1 is))
   stopped_at errors.TooManyFrames s t =
-      or_memory r (Y4mAnswer r n c) 6 (refusal (encoding_stopped errors.TooManyFrames) r.status 6 r.report t refl refl)
+      or_memory r (Y4mAnswer r n c) (encoding_stopped errors.TooManyFrames) 6 t refl refl
       (λ is. Yields.said (Y4mAnswer.many s.passes (many_long n.settings c left r.output (recon_by n.recon r.recon) told are s.stops) is))
   stopped_at errors.Read s t =
-      or_memory r (Y4mAnswer r n c) 7 (refusal (encoding_stopped errors.Read) r.status 7 r.report t refl refl) (λ is. Yields.read is (failed s.stops.0))
+      read_told r t (failed s.stops.0)
   stopped_at errors.Write s t =
-      or_memory r (Y4mAnswer r n c) 8 (refusal (encoding_stopped errors.Write) r.status 8 r.report t refl refl)
+      or_memory r (Y4mAnswer r n c) (encoding_stopped errors.Write) 8 t refl refl
       (λ is. elim s.stops.0 [
         | inl output ↦ Yields.write is output
         | inr recon ↦ recon_rose s.passes is recon
       ])
   stopped_at errors.Memory s t =
-      or_memory r (Y4mAnswer r n c) 12 (refusal (encoding_stopped errors.Memory) r.status 12 r.report t refl refl) (λ is. Yields.memory is)
+      want_told r t
 
   shut_at : (e : PortError) → EncodeShut n work e → Told (unopened_ending e) r.status r.report → Yields r (Y4mAnswer r n c)
   unfolding unopened_ending
   shut_at calls.Failed s t =
-      or_memory r (Y4mAnswer r n c) 8 (refusal (unopened_ending calls.Failed) r.status 8 r.report t refl refl)
+      or_memory r (Y4mAnswer r n c) (unopened_ending calls.Failed) 8 t refl refl
       (λ is. Yields.said (Y4mAnswer.recon s.passes s.shut.0 is))
   shut_at calls.Memory s t =
-      or_memory r (Y4mAnswer r n c) 12 (refusal (unopened_ending calls.Memory) r.status 12 r.report t refl refl) (λ is. Yields.memory is)
+      want_told r t
 
   encoded_at : (o : EncodeOutcome) → EncodeComes n work o → Told (encode_ending o) r.status r.report → Yields r (Y4mAnswer r n c)
   unfolding EncodeComes encode_ending unfit_ending
   encoded_at (Coded s) d t = done_answer s d.passes (coded_whole n.settings c left r.output (recon_by n.recon r.recon) told are s d.passes d.coded) t
   encoded_at (NotFit u) d t =
-      or_memory r (Y4mAnswer r n c) 3 (refusal (encode_ending (NotFit u)) r.status 3 r.report t refl refl)
+      or_memory r (Y4mAnswer r n c) (encode_ending (NotFit u)) 3 t refl refl
       (λ is. Yields.said (Y4mAnswer.unfit (fails_then u d.0) is))
   encoded_at (Unopened e) d t = shut_at e d t
   encoded_at (Stopped e) d t = stopped_at e d t
@@ -382,19 +373,16 @@ module _ (r : Run) (m : Meant) where
 
   -- whole frames without a fault leave no other answer
   whole_answer : (n : Meant) (c : Coming) → Passes n.settings → c.fault ≡ None → AreFrames (frame_size n) (length c.raw) → NoneFailed r → (r.recon.Failed → ⊥)
-      → Yields r (Y4mAnswer r n c) → Succeeds r
-  whole_answer n c passes none frames well sound (Yields.said (Y4mAnswer.unfit fails is)) = absurd (fails passes)
-  whole_answer n c passes none frames well sound (Yields.said (Y4mAnswer.ok p u f is)) = inl is
-  whole_answer n c passes none frames well sound (Yields.said (Y4mAnswer.unreported p u f g is)) = absurd (well.report g)
-  whole_answer n c passes none frames well sound (Yields.said (Y4mAnswer.short p u f is)) = absurd (not_inside (frame_size n) (length c.raw) frames f)
-  whole_answer n c passes none frames well sound (Yields.said (Y4mAnswer.none p u f is)) =
+      → Y4mAnswer r n c → Succeeds r
+  whole_answer n c passes none frames well sound (Y4mAnswer.unfit fails is) = absurd (fails passes)
+  whole_answer n c passes none frames well sound (Y4mAnswer.ok p u f is) = inl is
+  whole_answer n c passes none frames well sound (Y4mAnswer.unreported p u f g is) = absurd (well.report g)
+  whole_answer n c passes none frames well sound (Y4mAnswer.short p u f is) = absurd (not_inside (frame_size n) (length c.raw) frames f)
+  whole_answer n c passes none frames well sound (Y4mAnswer.none p u f is) =
       absurd (not_empty (frame_size n) (length c.raw) (omega (arith, more_bytes n.settings passes)) frames f)
-  whole_answer n c passes none frames well sound (Yields.said (Y4mAnswer.many p f is)) = absurd (not_many (frame_size n) (length c.raw) frames f)
-  whole_answer n c passes none frames well sound (Yields.said (Y4mAnswer.broken f p some few t)) = let both : None ≡ Some f = sym none ∙ some in absurd (cc)
-  whole_answer n c passes none frames well sound (Yields.said (Y4mAnswer.recon p f is)) = absurd (sound f)
-  whole_answer n c passes none frames well sound (Yields.read is f) = absurd (well.input f)
-  whole_answer n c passes none frames well sound (Yields.write is f) = absurd (well.output f)
-  whole_answer n c passes none frames well sound (Yields.memory is) = inr is
+  whole_answer n c passes none frames well sound (Y4mAnswer.many p f is) = absurd (not_many (frame_size n) (length c.raw) frames f)
+  whole_answer n c passes none frames well sound (Y4mAnswer.broken f p some few t) = let both : None ≡ Some f = sym none ∙ some in absurd (cc)
+  whole_answer n c passes none frames well sound (Y4mAnswer.recon p f is) = absurd (sound f)
 
   abbrev HeaderKept : List ℕ → Type 0
   HeaderKept text = (f : Y4mFault) → opening text ≡ Err f → Says r (y4m_fault f) × r.output.Unchanged × r.recon.Unchanged
@@ -416,7 +404,7 @@ module _ (r : Run) (m : Meant) where
     unfit = tells r.input UnfitKept (λ text told h c begins fails. unfit_at r text told m h c begins o d t fails);
     answer = tells r.input AnswerKept (λ text told bytes h c begins. answer_at text told bytes h c begins o d t);
     coded = tells r.input CodedKept (λ text told bytes h c begins passes none frames well sound.
-        whole_answer (with_header h m) c passes none frames well sound (answer_at text told bytes h c begins o d t));
+        well_answered r well (whole_answer (with_header h m) c passes none frames well sound) (answer_at text told bytes h c begins o d t));
   }
 
   -- where memory ran out before the words were read
@@ -440,63 +428,22 @@ module _ (x y : Option (List ℕ)) (F G U V : Type 0) (output recon : Change) wh
   abbrev by_text : Change
   by_text = record { old = x; new = y; Failed = G; Unchanged = V }
 
-  unended_read : (s : Settings) (frames : List (List ℕ)) (part : List ℕ) → Unended s by_source output recon frames part → Unended s by_text output recon frames part
-  unended_read s frames part u = record { most = u.most; whole = u.whole; moved = u.moved; grown = u.grown; shown = u.shown; unwritten = u.unwritten }
-
-  cut_read : (s : Settings) → CutOff s by_source output recon → CutOff s by_text output recon
-  cut_read s u = record {
-    frames = u.frames;
-    part = u.part;
-    most = u.most;
-    whole = u.whole;
-    less = u.less;
-    moved = u.moved;
-    grown = u.grown;
-    shown = u.shown;
-    unwritten = u.unwritten;
-  }
+  as_text : TellAlike by_source recon by_text recon
+  as_text = record { moved = λ bytes m. m; end = λ e. e; shown = λ bytes g. g; part = λ bytes g. g; same = λ u. u }
 
   pub inside_read : (s : Settings) → FailedInside s by_source output recon → FailedInside s by_text output recon
-  inside_read s i = record { frames = i.frames; part = i.part; begun = unended_read s i.frames i.part i.begun; less = i.less }
+  inside_read s i = record {
+    frames = i.frames;
+    part = i.part;
+    begun = begun_alike by_source recon by_text recon as_text s output i.frames i.part i.begun;
+    less = i.less;
+  }
 
   stops_read : (s : Settings) (e : EncodeError) → (e ≡ errors.Read → F → G) → Stops s by_source output recon e → Stops s by_text output recon e
-  unfolding Stops
-  stops_read s errors.Read failed c = (failed refl c.0, inside_read s c.1)
-  stops_read s errors.Write failed c = (c.0, cut_read s c.1)
-  stops_read s (errors.ShortFrame extra) failed c = record {
-    frames = c.frames;
-    part = c.part;
-    begun = unended_read s c.frames c.part c.begun;
-    bytes = c.bytes;
-    fewer = c.fewer;
-    count = c.count;
-    some = c.some;
-    less = c.less;
-    end = c.end;
-  }
-  stops_read s errors.NoFrames failed c = record { moved = c.moved; end = c.end; same = c.same }
-  stops_read s errors.TooManyFrames failed c = record {
-    frames = c.frames;
-    next = c.next;
-    begun = unended_read s c.frames (c.next ∷ []) c.begun;
-    byte = c.byte;
-    all = c.all;
-  }
-  stops_read s errors.Memory failed c = cut_read s c
+  stops_read s e failed c = stops_alike by_source recon by_text recon as_text s output e failed (λ f. f) c
 
   coded_read : (s : Settings) (summary : Summary) → AllCoded s by_source output recon summary → AllCoded s by_text output recon summary
-  coded_read s summary a = record {
-    frames = a.frames;
-    some = a.some;
-    most = a.most;
-    whole = a.whole;
-    moved = a.moved;
-    end = a.end;
-    grown = a.grown;
-    shown = a.shown;
-    numbers = a.numbers;
-    headline = a.headline;
-  }
+  coded_read s summary a = coded_alike by_source recon by_text recon as_text s output summary a
 
 module _ (x y : Option (List ℕ)) (F G U V : Type 0) (output recon : Change) (place : Place) where
   abbrev work_by_source : Work

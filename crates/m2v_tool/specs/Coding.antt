@@ -1,5 +1,5 @@
 -- What `flat` does: which outcome comes, what stands in input and output then, and what is answered to an input.
-use Rattle.std.specs.Prelude.{ℕ, ◌≡◌, ◌*◌, ◌<◌, [], ◌∷◌, length, codes}
+use Rattle.std.specs.Prelude.{ℕ, ◌≡◌, ◌*◌, ◌<◌, length}
 use Rattle.m2v_port.specs.Ends.{Change, Tells}
 use Rattle.m2v_plane.specs.Raw.{frame_bytes}
 use Rattle.m2v_flat.specs.declared.answer.Summary.{Summary}
@@ -13,7 +13,7 @@ use Rattle.m2v_make.specs.m2v_law_shown.Laws.{DecodesTo}
 use Rattle.m2v_tool.specs.declared.flat.FlatWords.{FlatWords}
 use Rattle.m2v_tool.specs.declared.flat.FlatOutcome.{FlatOutcome}
 use Rattle.m2v_tool.specs.declared.flat.FlatOutcome.TheVariants.{Coded, Unfit, Stopped}
-use Rattle.m2v_tool.specs.Endings.{Ending, Success, read_fault, write_fault, no_memory, unfit_ending, short_frame, no_frames, too_many_frames}
+use Rattle.m2v_tool.specs.Endings.{Ending, Success, coded_ending, read_fault, write_fault, no_memory, unfit_ending, short_frame, no_frames, too_many_frames}
 use Rattle.m2v_tool.specs.Words.{settings_of, WordsPass, WordsFail}
 use Rattle.m2v_tool.specs.Inputs.{AreFrames, EndInside}
 use Rattle.m2v_tool.specs.Runs.{Run, Yields, RefusedBy, NoneFailed, Succeeds}
@@ -47,11 +47,7 @@ coding_stopped Error.Memory = no_memory
 
 -- the ending of each outcome
 unfoldable pub flat_ending : FlatOutcome → Ending
-flat_ending (Coded s) = record {
-  status = 0;
-  texts = codes "frames " ∷ codes " pictures " ∷ codes " bytes " ∷ codes " stuffing " ∷ [];
-  numbers = s.frames ∷ s.pictures ∷ s.bytes ∷ s.stuffing ∷ [];
-}
+flat_ending (Coded s) = coded_ending s.frames s.pictures s.bytes s.stuffing
 flat_ending (Unfit u) = unfit_ending u
 flat_ending (Stopped e) = coding_stopped e
 

@@ -13,17 +13,28 @@ use Rattle.m2v_tool.specs.declared.command.Outcome.TheVariants as outcomes
 use Rattle.m2v_tool.specs.Words.{Means, NoCommand}
 use Rattle.m2v_tool.specs.Runs.{Run, Work, work_of, IsUntouched, RefusedBy}
 use Rattle.m2v_tool.specs.Endings.{Ending, Told, usage, no_memory}
-use Rattle.m2v_tool.specs.Coding.{FlatComes, FlatKeeps, flat_ending}
+use Rattle.m2v_tool.specs.Coding.{FlatKeeps}
 use Rattle.m2v_tool.specs.EncodeWords.{words_of}
-use Rattle.m2v_tool.specs.Encoding.{EncodeComes, EncodeKeeps, encode_ending}
-use Rattle.m2v_tool.specs.Decoding.{DecodeComes, DecodeKeeps, decode_ending}
-use Rattle.m2v_tool.specs.Checking.{CheckComes, CheckKeeps, check_ending}
-use Rattle.m2v_tool.specs.Auditing.{AuditComes, AuditKeeps, audit_ending}
-use Rattle.m2v_tool.specs.Mending.{list_named, MendComes, MendKeeps, mend_ending}
-use Rattle.m2v_tool.specs.Making.{MakeComes, MakeKeeps, make_ending}
-use Rattle.m2v_tool.specs.Cutting.{CutComes, CutKeeps, cut_ending}
-use Rattle.m2v_tool.specs.Y4mCoding.{Y4mComes, Y4mKeeps, y4m_ending}
-use Rattle.m2v_tool.specs.Packing.{PackComes, PackKeeps, pack_ending, UnpackComes, UnpackKeeps, unpack_ending}
+use Rattle.m2v_tool.specs.Encoding.{EncodeKeeps}
+use Rattle.m2v_tool.specs.Decoding.{DecodeKeeps}
+use Rattle.m2v_tool.specs.Checking.{CheckKeeps}
+use Rattle.m2v_tool.specs.Auditing.{AuditKeeps}
+use Rattle.m2v_tool.specs.Mending.{list_named, MendKeeps}
+use Rattle.m2v_tool.specs.Making.{MakeKeeps}
+use Rattle.m2v_tool.specs.Cutting.{CutKeeps}
+use Rattle.m2v_tool.specs.Y4mCoding.{Y4mKeeps}
+use Rattle.m2v_tool.specs.Packing.{PackKeeps, UnpackKeeps}
+-- what each command does and how each outcome is told
+unfoldable pub use Rattle.m2v_tool.specs.Coding.{FlatComes, coding_stopped, flat_ending}
+unfoldable pub use Rattle.m2v_tool.specs.Encoding.{EncodeComes, encoding_stopped, encode_ending}
+unfoldable pub use Rattle.m2v_tool.specs.Decoding.{DecodeComes, decoding_stopped, decode_ending}
+unfoldable pub use Rattle.m2v_tool.specs.Checking.{CheckComes, check_ending}
+unfoldable pub use Rattle.m2v_tool.specs.Auditing.{AuditComes, audit_ending}
+unfoldable pub use Rattle.m2v_tool.specs.Mending.{MendComes, mending_stopped, mend_ending}
+unfoldable pub use Rattle.m2v_tool.specs.Making.{MakeComes, making_stopped, make_ending}
+unfoldable pub use Rattle.m2v_tool.specs.Cutting.{CutComes, cutting_stopped, cut_ending}
+unfoldable pub use Rattle.m2v_tool.specs.Y4mCoding.{Y4mComes, unread_ending, y4m_ending}
+unfoldable pub use Rattle.m2v_tool.specs.Packing.{PackComes, packing_stopped, pack_ending, UnpackComes, unpacking_stopped, unpack_ending}
 
 -- When each outcome comes, and what stands then: words that mean no command are refused, and else comes what their
 -- command gives. Where memory ran out before the words were read, nothing else is looked at.

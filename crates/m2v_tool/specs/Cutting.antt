@@ -17,7 +17,7 @@ use Rattle.m2v_tool.specs.declared.cut.CutWords.{CutWords}
 use Rattle.m2v_tool.specs.declared.cut.CutOutcome.{CutOutcome}
 use Rattle.m2v_tool.specs.declared.cut.CutOutcome.TheVariants.{Done, NoneAsked, Stopped}
 use Rattle.m2v_tool.specs.Simple.{simple, number_word, required, taken}
-use Rattle.m2v_tool.specs.Endings.{Ending, Told, Success, line_of, read_fault, write_fault, no_memory, unfit_ending, ending_past}
+use Rattle.m2v_tool.specs.Endings.{Ending, Told, Success, line_of, numbered, read_fault, write_fault, no_memory, unfit_ending, ending_past}
 use Rattle.m2v_tool.specs.Runs.{Run, Yields, RefusedBy, NoneFailed, Succeeds}
 
 -- ---- words
@@ -58,11 +58,7 @@ no_group have need = record {
 }
 
 abbrev pub not_cuttable : ℕ → Ending
-not_cuttable place = record {
-  status = 17;
-  texts = codes "not cuttable at bit " ∷ [];
-  numbers = place ∷ [];
-}
+not_cuttable place = numbered 17 (codes "not cuttable at bit ") place
 
 -- of a cut that wasn't made to its end
 unfoldable pub cutting_stopped : CutError → Ending

@@ -1,5 +1,5 @@
 -- What `encode` does: which outcome comes, what stands in input, output and recon then, and what is answered to an input.
-use Rattle.std.specs.Prelude.{ℕ, ◌≡◌, ◌*◌, ◌<◌, [], ◌∷◌, None, length, codes}
+use Rattle.std.specs.Prelude.{ℕ, ◌≡◌, ◌*◌, ◌<◌, None, length}
 use Rattle.m2v_port.specs.Ends.{Tells}
 use Rattle.m2v_port.specs.declared.error.PortError.{PortError}
 use Rattle.m2v_plane.specs.Raw.{frame_bytes}
@@ -11,7 +11,7 @@ use Rattle.m2v_make.specs.m2v_encode.declared.answer.EncodeError.TheVariants as 
 use Rattle.m2v_make.specs.m2v_encode.Answers.{AllCoded, Stops, most_frames}
 use Rattle.m2v_tool.specs.declared.encode.EncodeOutcome.{EncodeOutcome}
 use Rattle.m2v_tool.specs.declared.encode.EncodeOutcome.TheVariants.{Coded, Unfit as NotFit, Unopened, Stopped}
-use Rattle.m2v_tool.specs.Endings.{Ending, Success, read_fault, write_fault, no_memory, unopened_ending, unfit_ending, short_frame, no_frames, too_many_frames}
+use Rattle.m2v_tool.specs.Endings.{Ending, Success, coded_ending, read_fault, write_fault, no_memory, unopened_ending, unfit_ending, short_frame, no_frames, too_many_frames}
 use Rattle.m2v_tool.specs.EncodeWords.{Meant}
 use Rattle.m2v_tool.specs.Runs.{Run, Work, work_of, Yields, RefusedBy, NoneFailed, Succeeds}
 use Rattle.m2v_tool.specs.Places.{recon_by, Stands, Shut}
@@ -59,11 +59,7 @@ encoding_stopped errors.Memory = no_memory
 
 -- of a stream with these numbers
 unfoldable pub encoded_ending : Summary → Ending
-encoded_ending s = record {
-  status = 0;
-  texts = codes "frames " ∷ codes " pictures " ∷ codes " bytes " ∷ codes " stuffing " ∷ [];
-  numbers = s.frames ∷ s.pictures ∷ s.bytes ∷ s.stuffing ∷ [];
-}
+encoded_ending s = coded_ending s.frames s.pictures s.bytes s.stuffing
 
 -- of each outcome
 unfoldable pub encode_ending : EncodeOutcome → Ending

@@ -54,6 +54,10 @@ pub record Success {O : Type 0} (Is : O → Type 0) (ending : O → Ending) (rep
 abbrev pub plain : ℕ → List ℕ → Ending
 plain status text = record { status = status; texts = text ∷ []; numbers = [] }
 
+-- one with a number behind its text
+abbrev pub numbered : ℕ → List ℕ → ℕ → Ending
+numbered status text number = record { status = status; texts = text ∷ []; numbers = number ∷ [] }
+
 abbrev pub usage : Ending
 usage = plain 2 (codes "usage")
 
@@ -81,17 +85,21 @@ unfit_ending u = record {
 
 -- raw frames that end inside one, of which there are so many bytes; that are none; and of which there are too many
 abbrev pub short_frame : ℕ → Ending
-short_frame extra = record {
-  status = 4;
-  texts = codes "short frame extra " ∷ [];
-  numbers = extra ∷ [];
-}
+short_frame extra = numbered 4 (codes "short frame extra ") extra
 
 abbrev pub no_frames : Ending
 no_frames = plain 5 (codes "no frames")
 
 abbrev pub too_many_frames : Ending
 too_many_frames = plain 6 (codes "too many frames")
+
+-- of a stream that was coded, with these numbers
+abbrev pub coded_ending : ℕ → ℕ → ℕ → ℕ → Ending
+coded_ending frames pictures bytes stuffing = record {
+  status = 0;
+  texts = codes "frames " ∷ codes " pictures " ∷ codes " bytes " ∷ codes " stuffing " ∷ [];
+  numbers = frames ∷ pictures ∷ bytes ∷ stuffing ∷ [];
+}
 
 -- of a stream that passes this limit
 unfoldable pub ending_past : Limit → Ending
@@ -100,8 +108,4 @@ ending_past too_large = plain 14 (codes "picture too large")
 
 -- of a stream with this first fault
 unfoldable pub stream_fault : Fault → Ending
-stream_fault f = record {
-  status = 9;
-  texts = ((codes "stream " ++ fault_word f.kind) ++ codes " at bit ") ∷ [];
-  numbers = f.place ∷ [];
-}
+stream_fault f = numbered 9 ((codes "stream " ++ fault_word f.kind) ++ codes " at bit ") f.place

@@ -22,7 +22,7 @@ use Rattle.m2v_tool.specs.declared.mend.MendWords.{MendWords}
 use Rattle.m2v_tool.specs.declared.mend.MendOutcome.{MendOutcome}
 use Rattle.m2v_tool.specs.declared.mend.MendOutcome.TheVariants.{Mended, Unopened, Stopped}
 use Rattle.m2v_tool.specs.Simple.{simple, text_option, taken}
-use Rattle.m2v_tool.specs.Endings.{Ending, Told, Success, read_fault, write_fault, no_memory, unopened_ending, ending_past}
+use Rattle.m2v_tool.specs.Endings.{Ending, Told, Success, numbered, read_fault, write_fault, no_memory, unopened_ending, ending_past}
 use Rattle.m2v_tool.specs.Runs.{Run, Work, work_of, Yields, NoneFailed, Succeeds}
 use Rattle.m2v_tool.specs.Places.{recon_by, Stands, Shut}
 
@@ -77,11 +77,8 @@ told_ending (some_kept groups of_groups pictures of_pictures bytes) = record {
   texts = codes "groups " ∷ codes " of " ∷ codes " pictures " ∷ codes " of " ∷ codes " bytes " ∷ [];
   numbers = groups ∷ of_groups ∷ pictures ∷ of_pictures ∷ bytes ∷ [];
 }
-told_ending (none_kept fault) = record {
-  status = 19;
-  texts = ((codes "nothing kept stream " ++ fault_word fault.0) ++ codes " at bit ") ∷ [];
-  numbers = fault.1 ∷ [];
-}
+told_ending (none_kept fault) =
+    numbered 19 ((codes "nothing kept stream " ++ fault_word fault.0) ++ codes " at bit ") fault.1
 
 abbrev pub mended_ending : Answer → Ending
 mended_ending a = told_ending (answer_told a)

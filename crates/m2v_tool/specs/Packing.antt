@@ -24,7 +24,7 @@ use Rattle.m2v_tool.specs.declared.pack.PackOutcome.TheVariants as packs
 use Rattle.m2v_tool.specs.declared.unpack.UnpackOutcome.{UnpackOutcome}
 use Rattle.m2v_tool.specs.declared.unpack.UnpackOutcome.TheVariants as unpacks
 use Rattle.m2v_tool.specs.Simple.{simple, number_word, flag_option, required, flag, taken}
-use Rattle.m2v_tool.specs.Endings.{Ending, Told, Success, line_of, read_fault, write_fault, no_memory, unfit_ending, short_frame, too_many_frames}
+use Rattle.m2v_tool.specs.Endings.{Ending, Told, Success, line_of, numbered, read_fault, write_fault, no_memory, unfit_ending, short_frame, too_many_frames}
 use Rattle.m2v_tool.specs.Inputs.{AreFew, EndInside}
 use Rattle.m2v_tool.specs.Runs.{Run, Yields, RefusedBy, NoneFailed, Succeeds}
 
@@ -64,11 +64,7 @@ kind_name kinds.Frame = codes "Frame"
 
 -- of a text with this first fault
 unfoldable pub y4m_fault : Y4mFault → Ending
-y4m_fault f = record {
-  status = 15;
-  texts = ((codes "y4m fault " ++ kind_name f.kind) ++ codes " at byte ") ∷ [];
-  numbers = f.place ∷ [];
-}
+y4m_fault f = numbered 15 ((codes "y4m fault " ++ kind_name f.kind) ++ codes " at byte ") f.place
 
 -- of frames that were packed or unpacked
 unfoldable pub packed_ending : PackSummary → Ending

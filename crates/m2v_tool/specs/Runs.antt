@@ -1,6 +1,6 @@
 -- A run of the program, as it is seen from outside.
 use Rattle.std.specs.Prelude.{ℕ, ◌≡◌, ◌⊎◌, Bool, List, Option}
-use Rattle.m2v_port.specs.Ends.{Change}
+use Rattle.m2v_port.specs.Ends.{Change, change}
 
 -- how the place for a file beside output, of reconstructions or of a list, stands in the end: whether it is open, and the
 -- name that it tells
@@ -24,6 +24,17 @@ pub record Work : Type 1 where
   pub output : Change
   pub recon : Change
   pub place : Place
+
+-- by what each endpoint tells and its count, from how they stood to how they stand; the place, by whether it is open and what
+-- name it tells
+abbrev pub worked : {S K N : Type 0} → (S → Option (List ℕ)) → (S → ℕ) → (K → Option (List ℕ)) → (K → ℕ) → (N → Option (List ℕ)) → (N → ℕ)
+    → (N → Bool) → (N → Option (List ℕ)) → S → S → K → K → N → N → Work
+worked left taken held put listed shown ready name input input' output output' recon recon' = record {
+  input = change left taken input input';
+  output = change held put output output';
+  recon = change listed shown recon recon';
+  place = record { ready = ready recon'; name = name recon' };
+}
 
 abbrev pub work_of : Run → Work
 work_of r = record { input = r.input; output = r.output; recon = r.recon; place = r.place }

@@ -1,21 +1,22 @@
 ghost use Rattle.std.specs.Prelude.{◌≡◌, map, string_bytes, IfOk, IfSome, IsNone};
 ghost use Rattle.m2v_tool.specs.declared.command.Command.{Command};
-ghost use Rattle.m2v_tool.specs.Endings.{IsReport};
 ghost use Rattle.m2v_tool.specs.Words.{Means, MeansBy, NoCommand};
-ghost use Rattle.m2v_tool.specs.Commands.{ending_of};
 
-use crate::audit::{AuditOutcome, audit_words};
-use crate::check::{CheckOutcome, check_words};
-use crate::cut::{CutOutcome, CutWords, cut_words};
-use crate::decode::{DecodeOutcome, decode_words};
-use crate::encode::{EncodeOutcome, EncodeWords, encode_words};
-use crate::encode_y4m::{Y4mOutcome, y4m_words};
-use crate::flat::{FlatOutcome, FlatWords, flat_words};
-use crate::make::{MakeOutcome, make_words};
-use crate::mend::{MendOutcome, MendWords, mend_words};
-use crate::pack::{PackOutcome, pack_words};
-use crate::report::{Report, no_memory, usage};
-use crate::unpack::{UnpackOutcome, unpack_words};
+use crate::audit::AuditOutcome;
+use crate::check::CheckOutcome;
+use crate::cut::{CutOutcome, CutWords};
+use crate::decode::DecodeOutcome;
+use crate::encode::{EncodeOutcome, EncodeWords};
+use crate::encode_y4m::Y4mOutcome;
+use crate::flat::{FlatOutcome, FlatWords};
+use crate::make::MakeOutcome;
+use crate::meant::{
+    audit_words, check_words, cut_words, decode_words, encode_words, flat_words, make_words,
+    mend_words, pack_words, unpack_words, y4m_words,
+};
+use crate::mend::{MendOutcome, MendWords};
+use crate::pack::PackOutcome;
+use crate::unpack::UnpackOutcome;
 use m2v_audit::Asked;
 use m2v_y4m::Y4mHeader;
 use std::alloc::{AllocError, Global};
@@ -78,30 +79,6 @@ pub enum Outcome {
     EncodeY4m(Y4mOutcome),
 }
 
-impl Outcome {
-    /// Its status and its line on report.
-    #[tactic(auto, unfolding(crate::specs::Commands::ending_of))]
-    pub(crate) fn report(&self, alloc: Global) -> Result<Report, AllocError>
-        ensures { IfOk result (λ r. IsReport r (ending_of self.now)) }
-    {
-        match self {
-            Outcome::Usage => usage(alloc),
-            Outcome::NoMemory => no_memory(alloc),
-            Outcome::Flat(outcome) => outcome.report(alloc),
-            Outcome::Encode(outcome) => outcome.report(alloc),
-            Outcome::Decode(outcome) => outcome.report(alloc),
-            Outcome::Check(outcome) => outcome.report(alloc),
-            Outcome::Audit(outcome) => outcome.report(alloc),
-            Outcome::Mend(outcome) => outcome.report(alloc),
-            Outcome::Make(outcome) => outcome.report(alloc),
-            Outcome::Cut(outcome) => outcome.report(alloc),
-            Outcome::Pack(outcome) => outcome.report(alloc),
-            Outcome::Unpack(outcome) => outcome.report(alloc),
-            Outcome::EncodeY4m(outcome) => outcome.report(alloc),
-        }
-    }
-}
-
 /// What the word that names a command means with those behind it.
 fn meant_by(alloc: Global, name: &str, others: &[String]) -> Result<Option<Command>, AllocError>
     ensures found { IfOk result (λ m. IfSome m (MeansBy name.now (map string_bytes others.now))) }
@@ -109,50 +86,17 @@ fn meant_by(alloc: Global, name: &str, others: &[String]) -> Result<Option<Comma
         → (c : Command) → MeansBy name.now (map string_bytes others.now) c → ⊥) }
 {
     match name {
-        "flat" => match flat_words(alloc, others)? {
-            Some(meant) => Ok(Some(Command::Flat(meant))),
-            None => Ok(None),
-        },
-        "encode" => match encode_words(alloc, others)? {
-            Some(meant) => Ok(Some(Command::Encode(meant))),
-            None => Ok(None),
-        },
-        "decode" => match decode_words(alloc, others)? {
-            Some(workers) => Ok(Some(Command::Decode(workers))),
-            None => Ok(None),
-        },
-        "check" => {
-            let taken = check_words(alloc, others)?;
-            Ok(taken.then_some(Command::Check))
-        }
-        "audit" => match audit_words(alloc, others)? {
-            Some(meant) => Ok(Some(Command::Audit(meant))),
-            None => Ok(None),
-        },
-        "mend" => match mend_words(alloc, others)? {
-            Some(meant) => Ok(Some(Command::Mend(meant))),
-            None => Ok(None),
-        },
-        "make" => match make_words(alloc, others)? {
-            Some(seed) => Ok(Some(Command::Make(seed))),
-            None => Ok(None),
-        },
-        "cut" => match cut_words(alloc, others)? {
-            Some(meant) => Ok(Some(Command::Cut(meant))),
-            None => Ok(None),
-        },
-        "pack" => match pack_words(alloc, others)? {
-            Some(header) => Ok(Some(Command::Pack(header))),
-            None => Ok(None),
-        },
-        "unpack" => {
-            let taken = unpack_words(alloc, others)?;
-            Ok(taken.then_some(Command::Unpack))
-        }
-        "encode-y4m" => match y4m_words(alloc, others)? {
-            Some(meant) => Ok(Some(Command::EncodeY4m(meant))),
-            None => Ok(None),
-        },
+        "flat" => Ok(flat_words(alloc, others)?.map(Command::Flat)),
+        "encode" => Ok(encode_words(alloc, others)?.map(Command::Encode)),
+        "decode" => Ok(decode_words(alloc, others)?.map(Command::Decode)),
+        "check" => Ok(check_words(alloc, others)?.then_some(Command::Check)),
+        "audit" => Ok(audit_words(alloc, others)?.map(Command::Audit)),
+        "mend" => Ok(mend_words(alloc, others)?.map(Command::Mend)),
+        "make" => Ok(make_words(alloc, others)?.map(Command::Make)),
+        "cut" => Ok(cut_words(alloc, others)?.map(Command::Cut)),
+        "pack" => Ok(pack_words(alloc, others)?.map(Command::Pack)),
+        "unpack" => Ok(unpack_words(alloc, others)?.then_some(Command::Unpack)),
+        "encode-y4m" => Ok(y4m_words(alloc, others)?.map(Command::EncodeY4m)),
         _ => Ok(None),
     }
 }

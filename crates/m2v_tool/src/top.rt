@@ -1,22 +1,15 @@
 ghost use Rattle.std.specs.Prelude.{◌≡◌, ◌≤◌, ◌==◌, if◌then◌else◌, map, string_bytes, IsTrue, IsFalse};
 ghost use Rattle.m2v_port.specs.Ends.{change, SinkStays};
 ghost use Rattle.m2v_tool.specs.Endings.{Told};
+ghost use Rattle.m2v_tool.specs.Runs.{worked};
 ghost use Rattle.m2v_tool.specs.Commands.{Comes, Kept, ending_of};
 
-use crate::audit::audited;
-use crate::check::judged;
+use crate::beside::{encoded, encoded_text, mended};
 use crate::command::{Command, Outcome, meaning};
-use crate::cut::cut_out;
-use crate::decode::decoded;
-use crate::encode::encoded;
-use crate::encode_y4m::encoded_text;
-use crate::flat::coded;
-use crate::make::made;
-use crate::mend::mended;
-use crate::pack::packed_frames;
-use crate::report::Report;
-use crate::unpack::unpacked;
+use crate::report::{Ends, Report};
+use crate::work::{audited, coded, cut_out, decoded, judged, made, packed_frames, unpacked};
 use m2v_board::Gate;
+use m2v_make::encode::Crew;
 use m2v_port::{NamedSink, PortError, Sink, Source};
 use std::alloc::{AllocError, Global};
 use std::sync::Wait;
@@ -41,12 +34,9 @@ fn carried_out<R: Threads + Wait + Sync, S: Source, K: Sink, N: NamedSink, G: Ga
 ) -> Outcome
     requires output { IsTrue (K.ready output.old) }
     requires recon { IsFalse (N.ready recon.old) }
-    ensures comes { Comes (map string_bytes words.now) (record {
-      input = change S.left S.faults input.old input.new;
-      output = change K.held K.faults output.old output.new;
-      recon = change N.held N.faults recon.old recon.new;
-      place = record { ready = N.ready recon.new; name = N.name recon.new };
-    }) result }
+    ensures comes { Comes (map string_bytes words.now)
+        (worked S.left S.faults K.held K.faults N.held N.faults N.ready N.name
+        input.old input.new output.old output.new recon.old recon.new) result }
     ensures recon { N.faults recon.old ≤ N.faults recon.new }
     ensures output { SinkStays K.ready K.name K.faults output.old output.new }
     ensures input { S.faults input.old ≤ S.faults input.new }
@@ -57,7 +47,7 @@ fn carried_out<R: Threads + Wait + Sync, S: Source, K: Sink, N: NamedSink, G: Ga
             Outcome::Encode(encoded(rt, alloc, &meant, input, output, recon, gate))
         }
         Ok(Some(Command::Decode(workers))) => {
-            Outcome::Decode(decoded(rt, alloc, workers, input, output, gate))
+            Outcome::Decode(decoded(&Crew { rt, alloc, gate }, workers, input, output))
         }
         Ok(Some(Command::Check)) => Outcome::Check(judged(alloc, input)),
         Ok(Some(Command::Audit(meant))) => Outcome::Audit(audited(alloc, &meant, input, output)),

@@ -132,14 +132,20 @@ pub(crate) fn number_word<'a>(alloc: Global, id: &'a str) -> Arg<'a>
         .value_parser(value_parser!(u32))
 }
 
+/// An option `--id TEXT` that may be given.
+pub(crate) fn text_option<'a>(alloc: Global, id: &'a str) -> Arg<'a>
+    ensures rule { rule_of result ≡ text_option id.entry.now }
+    ensures local { result.global ≡ false }
+{
+    Arg::new(alloc, id).long(id)
+}
+
 /// An option `--id N` that may be given.
 pub(crate) fn number_option<'a>(alloc: Global, id: &'a str) -> Arg<'a>
     ensures rule { rule_of result ≡ number_option id.entry.now }
     ensures local { result.global ≡ false }
 {
-    Arg::new(alloc, id)
-        .long(id)
-        .value_parser(value_parser!(u32))
+    text_option(alloc, id).value_parser(value_parser!(u32))
 }
 
 /// An option `--id N` that is required.
@@ -150,18 +156,10 @@ pub(crate) fn required_option<'a>(alloc: Global, id: &'a str) -> Arg<'a>
     number_option(alloc, id).required(true)
 }
 
-/// An option `--id TEXT` that may be given.
-pub(crate) fn text_option<'a>(alloc: Global, id: &'a str) -> Arg<'a>
-    ensures rule { rule_of result ≡ text_option id.entry.now }
-    ensures local { result.global ≡ false }
-{
-    Arg::new(alloc, id).long(id)
-}
-
 /// A flag `--id`.
 pub(crate) fn flag_option<'a>(alloc: Global, id: &'a str) -> Arg<'a>
     ensures rule { rule_of result ≡ flag_option id.entry.now }
     ensures local { result.global ≡ false }
 {
-    Arg::new(alloc, id).long(id).action(ArgAction::SetTrue)
+    text_option(alloc, id).action(ArgAction::SetTrue)
 }

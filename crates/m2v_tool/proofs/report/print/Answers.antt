@@ -1,26 +1,23 @@
-use Rattle.std.proofs.Common.{◌<◌, ◌≤◌, ◌+◌, ◌++◌, [], map, drop, length, List, ℕ, arith, sym, ap, ◌∙◌, Bor}
-use Rattle.std.proofs.lemmas.List.{length-map, get_or-map}
-use Rattle.m2v_tool.specs.Endings.{line_text}
-use Rattle.m2v_tool.proofs.LineLaws.{number_text, line_more, line_end}
+use Rattle.std.proofs.Common.{◌++◌, ◌+◌, List, ℕ, Bor, drop, arith, sym, ap, ap₂, ◌∙◌}
+use Rattle.m2v_tool.proofs.LineLaws.{line_from, line_more, line_end}
 use Rattle.m2v_tool.proofs.report.print.Goals as goal
 
--- the texts, without their references
-abbrev now_of : Bor (List ℕ) → List ℕ
-now_of t = t.now
+abbrev text_of : Bor (List ℕ) × ℕ → List ℕ
+text_of f = f.0.now
+
+abbrev number_of : Bor (List ℕ) × ℕ → ℕ
+number_of f = f.1
 
 pub loop-i-preserved : goal.loop-i-preserved
 loop-i-preserved c =
-    let i = c.loop-i.i in
-    let texts = map now_of c.args.texts.now in
-    let numbers = c.args.numbers.now in
     let before = c.loop-i.line.items in
-    let lt : i < length texts = omega (arith, length-map c.args.texts.now now_of) in
-    let text = c.as_bytes.ensures.value ∙ sym (get_or-map now_of c.args.texts.now i (record { ref_ptr = (0, 0); now = [] }) [] (omega arith)) in
-    let items = c.in_ok-push_number.ensures ∙ ap (λ (b : List ℕ). b ++ number_text numbers i) (c.in_ok-extend_from_slice.ensures.items ∙ ap (λ (b : List ℕ). before ++ b) text) in
-    ap (λ (b : List ℕ). b ++ line_text (drop (i + 1) texts) (drop (i + 1) numbers)) items ∙ sym (line_more before texts numbers i lt) ∙ c.loop-i.invariant
+    let text = c.in_ok-extend_from_slice.ensures.items ∙ ap (λ (b : List ℕ). before ++ b) c.as_bytes.ensures.value in
+    let number = c.as_bytes-in-loop-i.ensures.value ∙ c.format.ensures.text in
+    let items = c.in_ok-extend_from_slice-2.ensures.items ∙ ap₂ (λ (a b : List ℕ). a ++ b) text number in
+    ap (λ (b : List ℕ). b ++ line_from text_of number_of (drop (c.loop-i.i + 1) c.args.figures.now)) items
+    ∙ sym (line_more text_of number_of before c.args.figures.now c.loop-i.i _ (omega arith)) ∙ c.loop-i.invariant
 
 pub returns : goal.returns
 returns c =
-    let texts = map now_of c.args.texts.now in
-    let all : length texts ≤ c.loop-i.i = omega (arith, length-map c.args.texts.now now_of) in
-    c.in_ok-extend_from_slice-2.ensures.items ∙ sym (line_end c.loop-i.line.items texts c.args.numbers.now c.loop-i.i all) ∙ c.loop-i.invariant
+    c.in_ok-extend_from_slice-3.ensures.items
+    ∙ sym (line_end text_of number_of c.loop-i.line.items c.args.figures.now c.loop-i.i (omega arith)) ∙ c.loop-i.invariant

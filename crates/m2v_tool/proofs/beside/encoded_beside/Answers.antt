@@ -1,0 +1,43 @@
+use Rattle.std.proofs.Common.{◌≡◌, ℕ, List, Option, IfSome, Err, refl, ap, sym, subst}
+use Rattle.m2v_port.specs.Ends.{change}
+use Rattle.m2v_tool.specs.Encoding.{EncodeComes}
+use Rattle.m2v_tool.proofs.EncodingLaws.{coded_from, stops_from}
+use Rattle.m2v_tool.proofs.PlaceLaws.{shut_of}
+use Rattle.m2v_tool.proofs.beside.encoded_beside.Goals as goal
+
+pub returns-in-Err-clause-comes : goal.returns-in-Err-clause-comes
+unfolding EncodeComes
+returns-in-Err-clause-comes g c = record {
+  passes = c.settings-passes.ensures.passes;
+  named = λ none. cc none;
+  shut = shut_of c.in-Err.error
+      (record {
+        input = change g.S.Source.left g.S.Source.faults c.args.input.now c.args.input.now;
+        output = change g.K.Sink.held g.K.Sink.faults c.args.output.now c.args.output.now;
+        recon = change g.N.Sink.held g.N.Sink.faults c.args.recon.now c.open.new.self;
+        place = record { ready = g.N.Sink.ready c.open.new.self; name = g.N.Sink.name c.open.new.self };
+      })
+      (λ e. c.in-Err.ensures.failed (ap Err e)) c.in-Err.ensures.err c.in-Err.ensures.same refl refl;
+}
+
+pub returns-in-Ok-encode-clause-comes : goal.returns-in-Ok-encode-clause-comes
+unfolding EncodeComes
+returns-in-Ok-encode-clause-comes g c =
+    let stays = c.encode.ensures.recon in
+    record {
+      passes = c.settings-passes.ensures.passes;
+      coded = coded_from g.N.Sink.held g.N.Sink.faults c.args.recon.now c.open.new.self c.encode.new.recon.0 c.open.ensures.same c.open.ensures.faults
+          c.args.passed.now _ _ _ c.in-Ok-encode.ensures.ok;
+      stands = (stays.is_ready, subst (λ (o : Option (List ℕ)). IfSome o (λ told. told ≡ c.args.name.now)) (sym stays.keeps_name) c.in-Ok.ensures.name);
+    }
+
+pub returns-in-Err-encode-clause-comes : goal.returns-in-Err-encode-clause-comes
+unfolding EncodeComes
+returns-in-Err-encode-clause-comes g c =
+    let stays = c.encode.ensures.recon in
+    record {
+      passes = c.settings-passes.ensures.passes;
+      stops = stops_from g.N.Sink.held g.N.Sink.faults c.args.recon.now c.open.new.self c.encode.new.recon.0 c.open.ensures.same c.open.ensures.faults
+          c.args.passed.now _ _ c.in-Err-encode.error c.in-Err-encode.ensures.err;
+      stands = (stays.is_ready, subst (λ (o : Option (List ℕ)). IfSome o (λ told. told ≡ c.args.name.now)) (sym stays.keeps_name) c.in-Ok.ensures.name);
+    }

@@ -1,6 +1,0 @@
-use Rattle.m2v_tool.specs.Checking.{lawful_ending}
-use Rattle.m2v_tool.proofs.check.lawful.Goals as goal
-
-pub returns : goal.returns
-unfolding lawful_ending
-returns c = rw (c.from.ensures, c.from-2.ensures, c.from-3.ensures, c.from-4.ensures) at c.new.ensures

@@ -1,0 +1,13 @@
+use Rattle.std.proofs.Common.{ap, ap₂, ◌∙◌}
+use Rattle.std.proofs.lemmas.Result.{IfOk-weaker}
+use Rattle.clap.specs.Simple.{app_of, with_rule}
+use Rattle.m2v_tool.proofs.meant.with_numbers.Goals as goal
+
+pub returns : goal.returns
+returns c =
+    let with1 = c.in_ok-command.ensures ∙ ap (with_rule (app_of c.args.command)) c.number_option.ensures.rule in
+    let with2 = c.in_ok-command-2.ensures ∙ ap₂ with_rule with1 c.number_option-2.ensures.rule in
+    let with3 = c.in_ok-command-3.ensures ∙ ap₂ with_rule with2 c.number_option-3.ensures.rule in
+    let with4 = c.in_ok-command-4.ensures ∙ ap₂ with_rule with3 c.number_option-4.ensures.rule in
+    let with5 = c.in_ok-command-5.ensures ∙ ap₂ with_rule with4 c.number_option-5.ensures.rule in
+    IfOk-weaker c.with-6.result _ _ (λ m h. h ∙ ap₂ with_rule with5 c.number_option-6.ensures.rule) c.with-6.ensures
