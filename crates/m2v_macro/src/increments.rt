@@ -28,6 +28,7 @@ fn round(input: &mut BitReader, sum: u32) -> Result<(bool, u32), MacroFault>
 }
 
 /// An increment with its escapes (clause 6.3.17), kept up to 2^32 - 1.
+#[inline(always)]
 #[tactic(auto, unfolding(crate::specs::Macros::increment_from))]
 pub fn increment(input: &mut BitReader) -> Result<u32, MacroFault>
     ensures exact { GivesSum result input.new.rest (increment_at.read input.old.rest) }
