@@ -1,4 +1,4 @@
-//! How look-ups are written down.
+//! How tables and look-ups are written down.
 
 /// A look-up by its values in order: before values in brackets stands how many places each of them fills.
 macro_rules! lookup {
@@ -40,4 +40,14 @@ macro_rules! lookup {
     };
 }
 
+/// The rows of values that follow on each other, from the first on: the code of each, and how many bits it has.
+macro_rules! rows_from {
+    (@ [$($row:expr,)*] $value:expr;) => { [$($row,)*] };
+    (@ [$($row:expr,)*] $value:expr; $number:literal $len:literal, $($rest:tt)*) => {
+        rows_from!(@ [$($row,)* ($value, $number, $len),] $value + 1; $($rest)*)
+    };
+    ($first:expr; $($rest:tt)*) => { rows_from!(@ [] $first; $($rest)*) };
+}
+
 pub(crate) use lookup;
+pub(crate) use rows_from;
