@@ -2,42 +2,34 @@
 
 /// A look-up by its values in order: before values in brackets stands how many places each of them fills.
 macro_rules! lookup {
-    ($(
+    (@ [$($done:tt)*] 64 each [$($value:expr),*], $($rest:tt)*) => {
+        lookup!(@ [$($done)* 16 each [$($value, $value, $value, $value),*],] $($rest)*)
+    };
+    (@ [$($done:tt)*] 32 each [$($value:expr),*], $($rest:tt)*) => {
+        lookup!(@ [$($done)* 16 each [$($value, $value),*],] $($rest)*)
+    };
+    (@ [$($done:tt)*] $few:tt each $values:tt, $($rest:tt)*) => {
+        lookup!(@ [$($done)* $few each $values,] $($rest)*)
+    };
+    (@ [$(
         $(1 each [$($once:expr),*])?
         $(2 each [$($twice:expr),*])?
         $(4 each [$($four:expr),*])?
         $(8 each [$($eight:expr),*])?
-        $(16 each [$($sixteen:expr),*])?
-        $(32 each [$($many:expr),*])?
-        $(64 each [$($most:expr),*])?,
-    )*) => {
+        $(16 each [$($most:expr),*])?,
+    )*]) => {
         [$(
             $($($once,)*)?
             $($($twice, $twice,)*)?
             $($($four, $four, $four, $four,)*)?
             $($($eight, $eight, $eight, $eight, $eight, $eight, $eight, $eight,)*)?
             $($(
-                $sixteen, $sixteen, $sixteen, $sixteen, $sixteen, $sixteen, $sixteen, $sixteen,
-                $sixteen, $sixteen, $sixteen, $sixteen, $sixteen, $sixteen, $sixteen, $sixteen,
-            )*)?
-            $($(
-                $many, $many, $many, $many, $many, $many, $many, $many,
-                $many, $many, $many, $many, $many, $many, $many, $many,
-                $many, $many, $many, $many, $many, $many, $many, $many,
-                $many, $many, $many, $many, $many, $many, $many, $many,
-            )*)?
-            $($(
-                $most, $most, $most, $most, $most, $most, $most, $most,
-                $most, $most, $most, $most, $most, $most, $most, $most,
-                $most, $most, $most, $most, $most, $most, $most, $most,
-                $most, $most, $most, $most, $most, $most, $most, $most,
-                $most, $most, $most, $most, $most, $most, $most, $most,
-                $most, $most, $most, $most, $most, $most, $most, $most,
                 $most, $most, $most, $most, $most, $most, $most, $most,
                 $most, $most, $most, $most, $most, $most, $most, $most,
             )*)?
         )*]
     };
+    ($($groups:tt)*) => { lookup!(@ [] $($groups)*) };
 }
 
 /// The rows of values that follow on each other, from the first on: the code of each, and how many bits it has.
