@@ -1,7 +1,13 @@
 //! How tables and look-ups are written down.
 
-/// A look-up by its values in order: before values in brackets stands how many places each of them fills.
+/// A look-up by its values in order: before values in brackets stands how many places each of them fills. Where `both` stands
+/// there, each is a pair with its code's width, and the pair with the other sign follows it.
 macro_rules! lookup {
+    (@ [$($done:tt)*] $few:tt both [$(($level:expr, $run:expr, $len:expr)),*], $($rest:tt)*) => {
+        lookup!(
+            @ [$($done)*] $few each [$(($level, $run, $len), (-$level, $run, $len)),*], $($rest)*
+        )
+    };
     (@ [$($done:tt)*] 64 each [$($value:expr),*], $($rest:tt)*) => {
         lookup!(@ [$($done)* 16 each [$($value, $value, $value, $value),*],] $($rest)*)
     };
