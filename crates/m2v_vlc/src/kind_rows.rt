@@ -9,24 +9,25 @@ macro_rules! flag {
     (1) => { true };
 }
 
-/// A type by its flags, as the tables print them.
-macro_rules! kind {
-    ($quant:tt $forward:tt $backward:tt $pattern:tt $intra:tt) => {
-        MbType {
-            quant: flag!($quant),
-            forward: flag!($forward),
-            backward: flag!($backward),
-            pattern: flag!($pattern),
-            intra: flag!($intra),
-        }
+/// The rows of types, each by its flags as the tables print them: its code, and how many bits it has.
+macro_rules! kind_rows {
+    ($([$quant:tt $forward:tt $backward:tt $pattern:tt $intra:tt] $number:literal $len:literal),*) => {
+        [$((
+            MbType {
+                quant: flag!($quant),
+                forward: flag!($forward),
+                backward: flag!($backward),
+                pattern: flag!($pattern),
+                intra: flag!($intra),
+            },
+            $number,
+            $len,
+        )),*]
     };
 }
 
 /// The types in the order of table B.2: the value, its code, and how many bits that has.
-pub static TYPE_I_ROWS: [(MbType, u16, u8); 2] = [
-    (kind!(0 0 0 0 1), 0x1, 1),
-    (kind!(1 0 0 0 1), 0x1, 2),
-];
+pub static TYPE_I_ROWS: [(MbType, u16, u8); 2] = kind_rows![[0 0 0 0 1] 0x1 1, [1 0 0 0 1] 0x1 2];
 
 /// The row of the type that begins two bits, 255 for none.
 pub static TYPE_I_AT: [u8; 4] = [255, 1, 0, 0];
@@ -39,14 +40,9 @@ pub static TYPE_I_ROW: [u8; 32] = [
 ];
 
 /// The types in the order of table B.3: the value, its code, and how many bits that has.
-pub static TYPE_P_ROWS: [(MbType, u16, u8); 7] = [
-    (kind!(0 1 0 1 0), 0x1, 1),
-    (kind!(0 0 0 1 0), 0x1, 2),
-    (kind!(0 1 0 0 0), 0x1, 3),
-    (kind!(0 0 0 0 1), 0x3, 5),
-    (kind!(1 1 0 1 0), 0x2, 5),
-    (kind!(1 0 0 1 0), 0x1, 5),
-    (kind!(1 0 0 0 1), 0x1, 6),
+pub static TYPE_P_ROWS: [(MbType, u16, u8); 7] = kind_rows![
+    [0 1 0 1 0] 0x1 1, [0 0 0 1 0] 0x1 2, [0 1 0 0 0] 0x1 3, [0 0 0 0 1] 0x3 5, [1 1 0 1 0] 0x2 5,
+    [1 0 0 1 0] 0x1 5, [1 0 0 0 1] 0x1 6
 ];
 
 /// The row of the type that begins six bits, 255 for none.
@@ -65,18 +61,10 @@ pub static TYPE_P_ROW: [u8; 32] = [
 ];
 
 /// The types in the order of table B.4: the value, its code, and how many bits that has.
-pub static TYPE_B_ROWS: [(MbType, u16, u8); 11] = [
-    (kind!(0 1 1 0 0), 0x2, 2),
-    (kind!(0 1 1 1 0), 0x3, 2),
-    (kind!(0 0 1 0 0), 0x2, 3),
-    (kind!(0 0 1 1 0), 0x3, 3),
-    (kind!(0 1 0 0 0), 0x2, 4),
-    (kind!(0 1 0 1 0), 0x3, 4),
-    (kind!(0 0 0 0 1), 0x3, 5),
-    (kind!(1 1 1 1 0), 0x2, 5),
-    (kind!(1 1 0 1 0), 0x3, 6),
-    (kind!(1 0 1 1 0), 0x2, 6),
-    (kind!(1 0 0 0 1), 0x1, 6),
+pub static TYPE_B_ROWS: [(MbType, u16, u8); 11] = kind_rows![
+    [0 1 1 0 0] 0x2 2, [0 1 1 1 0] 0x3 2, [0 0 1 0 0] 0x2 3, [0 0 1 1 0] 0x3 3, [0 1 0 0 0] 0x2 4,
+    [0 1 0 1 0] 0x3 4, [0 0 0 0 1] 0x3 5, [1 1 1 1 0] 0x2 5, [1 1 0 1 0] 0x3 6, [1 0 1 1 0] 0x2 6,
+    [1 0 0 0 1] 0x1 6
 ];
 
 /// The row of the type that begins six bits, 255 for none.

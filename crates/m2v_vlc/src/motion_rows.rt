@@ -1,42 +1,13 @@
 //! The look-ups of motion codes and dmvectors (tables B.10 and B.11).
 
-use crate::lookup::lookup;
+use crate::lookup::{lookup, rows_from};
 
 /// The motion codes in the order of table B.10: the value, its code, and how many bits that has.
-pub static MOTION_ROWS: [(i8, u16, u8); 33] = [
-    (-16, 0x19, 11),
-    (-15, 0x1B, 11),
-    (-14, 0x1D, 11),
-    (-13, 0x1F, 11),
-    (-12, 0x21, 11),
-    (-11, 0x23, 11),
-    (-10, 0x13, 10),
-    (-9, 0x15, 10),
-    (-8, 0x17, 10),
-    (-7, 0x7, 8),
-    (-6, 0x9, 8),
-    (-5, 0xB, 8),
-    (-4, 0x7, 7),
-    (-3, 0x3, 5),
-    (-2, 0x3, 4),
-    (-1, 0x3, 3),
-    (0, 0x1, 1),
-    (1, 0x2, 3),
-    (2, 0x2, 4),
-    (3, 0x2, 5),
-    (4, 0x6, 7),
-    (5, 0xA, 8),
-    (6, 0x8, 8),
-    (7, 0x6, 8),
-    (8, 0x16, 10),
-    (9, 0x14, 10),
-    (10, 0x12, 10),
-    (11, 0x22, 11),
-    (12, 0x20, 11),
-    (13, 0x1E, 11),
-    (14, 0x1C, 11),
-    (15, 0x1A, 11),
-    (16, 0x18, 11),
+pub static MOTION_ROWS: [(i8, u16, u8); 33] = rows_from![
+    -16;
+    0x19 11, 0x1B 11, 0x1D 11, 0x1F 11, 0x21 11, 0x23 11, 0x13 10, 0x15 10, 0x17 10, 0x7 8, 0x9 8,
+    0xB 8, 0x7 7, 0x3 5, 0x3 4, 0x3 3, 0x1 1, 0x2 3, 0x2 4, 0x2 5, 0x6 7, 0xA 8, 0x8 8, 0x6 8,
+    0x16 10, 0x14 10, 0x12 10, 0x22 11, 0x20 11, 0x1E 11, 0x1C 11, 0x1A 11, 0x18 11,
 ];
 
 /// The row of the motion code that begins eleven bits, 255 for none.

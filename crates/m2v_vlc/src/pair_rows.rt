@@ -1,7 +1,7 @@
 //! The pairs of tables B.14 and B.15, which have the same pairs in the same order.
 
-/// Hands the pairs on to a macro, a run at a time: each level with its code in table B.14 and that in table B.15, as a number
-/// and how many bits it has without the sign bit.
+/// Hands the pairs on to a macro, a run at a time: each level with its code in table B.14 and that in table B.15, or the one that
+/// both have, as a number and how many bits it has without the sign bit.
 macro_rules! pairs {
     ($table:ident) => {
         $table! {
@@ -10,54 +10,51 @@ macro_rules! pairs {
                 5 [0x26 8] [0x1D 5], 6 [0x21 8] [0x5 6], 7 [0xA 10] [0x4 6], 8 [0x1D 12] [0x7B 7],
                 9 [0x18 12] [0x7C 7], 10 [0x13 12] [0x23 8], 11 [0x10 12] [0x22 8],
                 12 [0x1A 13] [0xFA 8], 13 [0x19 13] [0xFB 8], 14 [0x18 13] [0xFE 8],
-                15 [0x17 13] [0xFF 8], 16 [0x1F 14] [0x1F 14], 17 [0x1E 14] [0x1E 14],
-                18 [0x1D 14] [0x1D 14], 19 [0x1C 14] [0x1C 14], 20 [0x1B 14] [0x1B 14],
-                21 [0x1A 14] [0x1A 14], 22 [0x19 14] [0x19 14], 23 [0x18 14] [0x18 14],
-                24 [0x17 14] [0x17 14], 25 [0x16 14] [0x16 14], 26 [0x15 14] [0x15 14],
-                27 [0x14 14] [0x14 14], 28 [0x13 14] [0x13 14], 29 [0x12 14] [0x12 14],
-                30 [0x11 14] [0x11 14], 31 [0x10 14] [0x10 14], 32 [0x18 15] [0x18 15],
-                33 [0x17 15] [0x17 15], 34 [0x16 15] [0x16 15], 35 [0x15 15] [0x15 15],
-                36 [0x14 15] [0x14 15], 37 [0x13 15] [0x13 15], 38 [0x12 15] [0x12 15],
-                39 [0x11 15] [0x11 15], 40 [0x10 15] [0x10 15];
+                15 [0x17 13] [0xFF 8], 16 both [0x1F 14], 17 both [0x1E 14], 18 both [0x1D 14],
+                19 both [0x1C 14], 20 both [0x1B 14], 21 both [0x1A 14], 22 both [0x19 14],
+                23 both [0x18 14], 24 both [0x17 14], 25 both [0x16 14], 26 both [0x15 14],
+                27 both [0x14 14], 28 both [0x13 14], 29 both [0x12 14], 30 both [0x11 14],
+                31 both [0x10 14], 32 both [0x18 15], 33 both [0x17 15], 34 both [0x16 15],
+                35 both [0x15 15], 36 both [0x14 15], 37 both [0x13 15], 38 both [0x12 15],
+                39 both [0x11 15], 40 both [0x10 15];
             1:
                 1 [0x3 3] [0x2 3], 2 [0x6 6] [0x6 5], 3 [0x25 8] [0x79 7], 4 [0xC 10] [0x27 8],
-                5 [0x1B 12] [0x20 8], 6 [0x16 13] [0x16 13], 7 [0x15 13] [0x15 13],
-                8 [0x1F 15] [0x1F 15], 9 [0x1E 15] [0x1E 15], 10 [0x1D 15] [0x1D 15],
-                11 [0x1C 15] [0x1C 15], 12 [0x1B 15] [0x1B 15], 13 [0x1A 15] [0x1A 15],
-                14 [0x19 15] [0x19 15], 15 [0x13 16] [0x13 16], 16 [0x12 16] [0x12 16],
-                17 [0x11 16] [0x11 16], 18 [0x10 16] [0x10 16];
+                5 [0x1B 12] [0x20 8], 6 both [0x16 13], 7 both [0x15 13], 8 both [0x1F 15],
+                9 both [0x1E 15], 10 both [0x1D 15], 11 both [0x1C 15], 12 both [0x1B 15],
+                13 both [0x1A 15], 14 both [0x19 15], 15 both [0x13 16], 16 both [0x12 16],
+                17 both [0x11 16], 18 both [0x10 16];
             2:
                 1 [0x5 4] [0x5 5], 2 [0x4 7] [0x7 7], 3 [0xB 10] [0xFC 8], 4 [0x14 12] [0xC 10],
-                5 [0x14 13] [0x14 13];
-            3: 1 [0x7 5] [0x7 5], 2 [0x24 8] [0x26 8], 3 [0x1C 12] [0x1C 12], 4 [0x13 13] [0x13 13];
-            4: 1 [0x6 5] [0x6 6], 2 [0xF 10] [0xFD 8], 3 [0x12 12] [0x12 12];
-            5: 1 [0x7 6] [0x7 6], 2 [0x9 10] [0x4 9], 3 [0x12 13] [0x12 13];
-            6: 1 [0x5 6] [0x6 7], 2 [0x1E 12] [0x1E 12], 3 [0x14 16] [0x14 16];
-            7: 1 [0x4 6] [0x4 7], 2 [0x15 12] [0x15 12];
-            8: 1 [0x7 7] [0x5 7], 2 [0x11 12] [0x11 12];
-            9: 1 [0x5 7] [0x78 7], 2 [0x11 13] [0x11 13];
-            10: 1 [0x27 8] [0x7A 7], 2 [0x10 13] [0x10 13];
-            11: 1 [0x23 8] [0x21 8], 2 [0x1A 16] [0x1A 16];
-            12: 1 [0x22 8] [0x25 8], 2 [0x19 16] [0x19 16];
-            13: 1 [0x20 8] [0x24 8], 2 [0x18 16] [0x18 16];
-            14: 1 [0xE 10] [0x5 9], 2 [0x17 16] [0x17 16];
-            15: 1 [0xD 10] [0x7 9], 2 [0x16 16] [0x16 16];
-            16: 1 [0x8 10] [0xD 10], 2 [0x15 16] [0x15 16];
-            17: 1 [0x1F 12] [0x1F 12];
-            18: 1 [0x1A 12] [0x1A 12];
-            19: 1 [0x19 12] [0x19 12];
-            20: 1 [0x17 12] [0x17 12];
-            21: 1 [0x16 12] [0x16 12];
-            22: 1 [0x1F 13] [0x1F 13];
-            23: 1 [0x1E 13] [0x1E 13];
-            24: 1 [0x1D 13] [0x1D 13];
-            25: 1 [0x1C 13] [0x1C 13];
-            26: 1 [0x1B 13] [0x1B 13];
-            27: 1 [0x1F 16] [0x1F 16];
-            28: 1 [0x1E 16] [0x1E 16];
-            29: 1 [0x1D 16] [0x1D 16];
-            30: 1 [0x1C 16] [0x1C 16];
-            31: 1 [0x1B 16] [0x1B 16];
+                5 both [0x14 13];
+            3: 1 both [0x7 5], 2 [0x24 8] [0x26 8], 3 both [0x1C 12], 4 both [0x13 13];
+            4: 1 [0x6 5] [0x6 6], 2 [0xF 10] [0xFD 8], 3 both [0x12 12];
+            5: 1 both [0x7 6], 2 [0x9 10] [0x4 9], 3 both [0x12 13];
+            6: 1 [0x5 6] [0x6 7], 2 both [0x1E 12], 3 both [0x14 16];
+            7: 1 [0x4 6] [0x4 7], 2 both [0x15 12];
+            8: 1 [0x7 7] [0x5 7], 2 both [0x11 12];
+            9: 1 [0x5 7] [0x78 7], 2 both [0x11 13];
+            10: 1 [0x27 8] [0x7A 7], 2 both [0x10 13];
+            11: 1 [0x23 8] [0x21 8], 2 both [0x1A 16];
+            12: 1 [0x22 8] [0x25 8], 2 both [0x19 16];
+            13: 1 [0x20 8] [0x24 8], 2 both [0x18 16];
+            14: 1 [0xE 10] [0x5 9], 2 both [0x17 16];
+            15: 1 [0xD 10] [0x7 9], 2 both [0x16 16];
+            16: 1 [0x8 10] [0xD 10], 2 both [0x15 16];
+            17: 1 both [0x1F 12];
+            18: 1 both [0x1A 12];
+            19: 1 both [0x19 12];
+            20: 1 both [0x17 12];
+            21: 1 both [0x16 12];
+            22: 1 both [0x1F 13];
+            23: 1 both [0x1E 13];
+            24: 1 both [0x1D 13];
+            25: 1 both [0x1C 13];
+            26: 1 both [0x1B 13];
+            27: 1 both [0x1F 16];
+            28: 1 both [0x1E 16];
+            29: 1 both [0x1D 16];
+            30: 1 both [0x1C 16];
+            31: 1 both [0x1B 16];
         }
     };
 }
@@ -79,15 +76,17 @@ macro_rules! coefficient_rows {
 
 /// The rows of table B.14.
 macro_rules! rows_zero {
-    ($($run:literal: $($level:literal $own:tt $other:tt),+;)+) => {
-        coefficient_rows! { 0x2 2 $($run: $($level $own),+;)+ }
+    ($($run:literal: $($level:literal
+        $([$own:literal $len:literal] $other:tt)? $(both [$same:literal $size:literal])?),+;)+) => {
+        coefficient_rows! { 0x2 2 $($run: $($level $([$own $len])? $([$same $size])?),+;)+ }
     };
 }
 
 /// The rows of table B.15.
 macro_rules! rows_one {
-    ($($run:literal: $($level:literal $other:tt $own:tt),+;)+) => {
-        coefficient_rows! { 0x6 4 $($run: $($level $own),+;)+ }
+    ($($run:literal: $($level:literal
+        $([$other:literal $width:literal] $own:tt)? $(both $same:tt)?),+;)+) => {
+        coefficient_rows! { 0x6 4 $($run: $($level $($own)? $($same)?),+;)+ }
     };
 }
 
