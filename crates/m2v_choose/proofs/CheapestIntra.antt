@@ -4,7 +4,6 @@ use Rattle.std.specs.Prelude.{nat_lt}
 use Rattle.std.proofs.lemmas.List.{length-append}
 use Rattle.std.proofs.Math.Nat.{mul-le-mul_left}
 use Rattle.m2v_bits.proofs.Bits.{length-bits_of}
-use Rattle.m2v_bits.proofs.Texts.{left_length}
 use Rattle.m2v_vlc.specs.Codes.{code_of}
 use Rattle.m2v_vlc.specs.Tables.{type_p, type_b}
 use Rattle.m2v_recon.specs.Macro.{is_coded}
@@ -14,6 +13,7 @@ use Rattle.m2v_macro.specs.States.{after}
 use Rattle.m2v_macro.specs.Texts.{macro_text, kind_text}
 use Rattle.m2v_macroblock.specs.Macroblocks.{Macroblock, kind_for, block_levels, predictor}
 use Rattle.m2v_macroblock.specs.Texts.{block_in_text, blocks_text, macroblock_text}
+use Rattle.m2v_macroblock.proofs.BlockTexts.{six_blocks}
 use Rattle.m2v_macroblock.proofs.m2v_block.Shortest.{intra_least}
 use Rattle.m2v_choose.specs.declared.trial.Best.{Best}
 use Rattle.m2v_choose.specs.Decisions.{Decision, Coding, intra_syntax}
@@ -40,22 +40,7 @@ module _ (c : PictureContext) (st : SliceState) (x : Macroblock) (intra : x.synt
 
   blocks_least : 24 ≤ length (blocks_text c st x 0 6)
   blocks_least =
-      let text = block_in_text c st x in
-      omega (
-        arith,
-        left_length text 6 0 (omega arith),
-        left_length text 6 1 (omega arith),
-        left_length text 6 2 (omega arith),
-        left_length text 6 3 (omega arith),
-        left_length text 6 4 (omega arith),
-        left_length text 6 5 (omega arith),
-        one_least 0 refl,
-        one_least 1 refl,
-        one_least 2 refl,
-        one_least 3 refl,
-        one_least 4 refl,
-        one_least 5 refl,
-      )
+      omega (arith, six_blocks c st x, one_least 0 refl, one_least 1 refl, one_least 2 refl, one_least 3 refl, one_least 4 refl, one_least 5 refl)
 
 pub header_least : (d : Decision) (st : SliceState) (k : Coding) → (d.context.kind ≡ 2) ⊎ (d.context.kind ≡ 3) → 5 ≤ length (macro_text d.context st (intra_syntax d k))
 unfolding intra_syntax

@@ -1,12 +1,11 @@
 -- The bits before the blocks of a macroblock that has a prediction, with coded blocks and without.
 use Rattle.std.proofs.Common.{◌≡◌, ℕ, zero, suc, ◌+◌, ◌≤◌, ◌<◌, Bool, true, false, ◌&&◌, ◌||◌, not, ◌⊎◌, inl, inr, [], ◌∷◌, ◌++◌, length, refl, ap, sym, ◌∙◌, subst, arith}
 use Rattle.std.specs.Prelude.{nat_le, nat_eq, cond, if◌then◌else◌}
+use Rattle.std.proofs.Math.Bool.{or-true}
 use Rattle.std.proofs.lemmas.Bool.{leb-true, eqb-true, cases_eq}
 use Rattle.std.proofs.lemmas.List.{length-append}
 use Rattle.m2v_bits.specs.Bits.{bits_of}
 use Rattle.m2v_bits.proofs.Bits.{length-bits_of}
-use Rattle.m2v_bits.proofs.Texts.{left_length}
-use Rattle.m2v_recon.specs.Macro.{is_coded}
 use Rattle.m2v_vlc.specs.declared.values.MbType.{MbType}
 use Rattle.m2v_vlc.specs.Codes.{code_of}
 use Rattle.m2v_vlc.specs.Tables.{block_pattern, pattern_code}
@@ -21,7 +20,8 @@ use Rattle.m2v_macro.specs.Conditions.{IsMacro}
 use Rattle.m2v_macro.proofs.Types.{of_i, of_p, of_b}
 use Rattle.m2v_macro.specs.Texts.{macro_text, modes_text, directions_text, pattern_text, kind_text, increment_text, form_text, dct_text, quantiser_text, marker_text}
 use Rattle.m2v_macroblock.specs.Macroblocks.{Macroblock}
-use Rattle.m2v_macroblock.specs.Texts.{block_in_text, blocks_text, macroblock_text}
+use Rattle.m2v_macroblock.specs.Texts.{blocks_text, macroblock_text}
+use Rattle.m2v_macroblock.proofs.Counted.{no_blocks}
 use Rattle.m2v_choose.specs.declared.task.Task.{Task}
 use Rattle.m2v_choose.specs.declared.bits.Headers.{Headers}
 use Rattle.m2v_choose.specs.Trials.{with_blocks, sends_code, has_types, shared_length, header_length, AreHeaders, IsHeader}
@@ -163,19 +163,12 @@ least_known t m h n other known kept sent = λ q dct_field pattern some most.
 
 -- ---- without blocks
 
-no_quant_p : (a f b : Bool) → has_type_p (record { quant = a; forward = f; backward = b; pattern = false; intra = false }) ≡ true → a ≡ false
-no_quant_p false f b e = refl
-no_quant_p true true true e = absurd cc
-no_quant_p true true false e = absurd cc
-no_quant_p true false true e = absurd cc
-no_quant_p true false false e = absurd cc
-
-no_quant_b : (a f b : Bool) → has_type_b (record { quant = a; forward = f; backward = b; pattern = false; intra = false }) ≡ true → a ≡ false
-no_quant_b false f b e = refl
-no_quant_b true true true e = absurd cc
-no_quant_b true true false e = absurd cc
-no_quant_b true false true e = absurd cc
-no_quant_b true false false e = absurd cc
+no_quant : (a f b : Bool) → (has_type_p (record { quant = a; forward = f; backward = b; pattern = false; intra = false }) || has_type_b (record { quant = a; forward = f; backward = b; pattern = false; intra = false })) ≡ true → a ≡ false
+no_quant false f b e = refl
+no_quant true true true e = absurd cc
+no_quant true true false e = absurd cc
+no_quant true false true e = absurd cc
+no_quant true false false e = absurd cc
 
 -- a macroblock without blocks that has a prediction and can stand in a picture
 module _ (c : PictureContext) (st : SliceState) (m : MacroSyntax) (fits : IsMacro c st m) (other : m.kind.intra ≡ false) (none : m.pattern ≡ 0) (low : 1 ≤ c.kind) (high : c.kind ≤ 3) where
@@ -230,41 +223,18 @@ module _ (c : PictureContext) (st : SliceState) (m : MacroSyntax) (fits : IsMacr
       let pattern = pattern_none m.kind.pattern refl in
       let same : m.kind ≡ record { quant = m.kind.quant; forward = m.kind.forward; backward = m.kind.backward; pattern = false; intra = false } =
       λ i. record { quant = m.kind.quant; forward = m.kind.forward; backward = m.kind.backward; pattern = pattern i; intra = other i } in
+      let has : (has_type_p m.kind || has_type_b m.kind) ≡ true = elim kind_known [
+        | inl two ↦ ap (λ t. t || has_type_b m.kind) (of_p c.kind m.kind two fits.kind)
+        | inr three ↦ rw (of_b c.kind m.kind not_intra (λ two. omega (arith, two, three)) fits.kind) (or-true (has_type_p m.kind))
+      ] in
       record {
-        quant = elim kind_known [
-          | inl two ↦ no_quant_p m.kind.quant m.kind.forward m.kind.backward (subst (λ (v : MbType). has_type_p v ≡ true) same (of_p c.kind m.kind two fits.kind))
-          | inr three ↦ no_quant_b m.kind.quant m.kind.forward m.kind.backward (subst (λ (v : MbType). has_type_b v ≡ true) same (of_b c.kind m.kind not_intra (λ two. omega (arith, two, three)) fits.kind))
-        ];
+        quant = no_quant m.kind.quant m.kind.forward m.kind.backward (subst (λ (v : MbType). (has_type_p v || has_type_b v) ≡ true) same has);
         pattern = pattern;
         intra = other;
       }
 
 -- a macroblock without coded blocks has its elements alone
 module _ (c : PictureContext) (st : SliceState) (x : Macroblock) (none : x.syntax.pattern ≡ 0) where
-  alone : length (blocks_text c (after c st x.syntax) x 0 6) ≡ 0
-  unfolding block_in_text
-  alone =
-      let text = block_in_text c (after c st x.syntax) x in
-      let no = λ (b : ℕ) (e : is_coded 0 b ≡ false). nothing b e in
-      omega (
-        arith,
-        left_length text 6 0 (omega arith),
-        left_length text 6 1 (omega arith),
-        left_length text 6 2 (omega arith),
-        left_length text 6 3 (omega arith),
-        left_length text 6 4 (omega arith),
-        left_length text 6 5 (omega arith),
-        no 0 refl,
-        no 1 refl,
-        no 2 refl,
-        no 3 refl,
-        no 4 refl,
-        no 5 refl,
-      )
-    where
-      nothing : (b : ℕ) → is_coded 0 b ≡ false → length (block_in_text c (after c st x.syntax) x b) ≡ 0
-      nothing b e = rw (none, e) refl
-
   pub text_alone : length (macroblock_text c st x) ≡ length (macro_text c st x.syntax)
   unfolding macroblock_text
-  text_alone = omega (arith, length-append (macro_text c st x.syntax) (blocks_text c (after c st x.syntax) x 0 6), alone)
+  text_alone = omega (arith, length-append (macro_text c st x.syntax) (blocks_text c (after c st x.syntax) x 0 6), no_blocks c (after c st x.syntax) x none)

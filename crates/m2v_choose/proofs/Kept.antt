@@ -1,5 +1,5 @@
 -- What a candidate leaves: near predictors of vectors, and a quantiser code.
-use Rattle.std.proofs.Common.{◌≡◌, ℕ, zero, suc, ◌≤◌, Bool, true, false, cond, All, List, [], ◌∷◌, ◌++◌, filter, map, refl, arith, ℤ, pos, neg_ℤ, ◌≤ℤ◌, ◌*ℤ◌}
+use Rattle.std.proofs.Common.{◌≡◌, ℕ, zero, suc, ◌+◌, ◌*◌, ◌≤◌, Bool, true, false, cond, All, List, [], ◌∷◌, ◌++◌, filter, map, refl, arith, ℤ, pos, neg_ℤ, ◌≤ℤ◌, ◌*ℤ◌}
 use Rattle.std.specs.Prelude.{nat_eq, nat_lt, if◌then◌else◌, slice_index_or}
 use Rattle.std.specs.List.{flat_map}
 use Rattle.std.proofs.lemmas.Int.{ints}
@@ -143,23 +143,21 @@ unfolding is_halved
 plain_halved true = refl
 plain_halved false = refl
 
-pub whole_within : (d : Decision) (view : View) (form : SearchForm) → reach form d.limits.search ≤ 15 → d.limits.search ≤ 15 → IsWithin 31 31 (vector_for d view form)
+-- a vector lies within reach, and half a sample
+within_by : (most : ℕ) (d : Decision) (view : View) (form : SearchForm) → reach form d.limits.search ≤ most → d.limits.search ≤ 15 → IsWithin 31 (2 * most + 1) (vector_for d view form)
 unfolding vector_for
-whole_within d view form down across =
+within_by most d view form down across =
     let h = vector_within d.dims (view Y) d.source d.limits.row d.limits.column form d.limits.search in
     record {
       x = record { low = omega (arith, ints, h.x.low, across); high = omega (arith, ints, h.x.high, across) };
       y = record { low = omega (arith, ints, h.y.low, down); high = omega (arith, ints, h.y.high, down) };
     }
 
+pub whole_within : (d : Decision) (view : View) (form : SearchForm) → reach form d.limits.search ≤ 15 → d.limits.search ≤ 15 → IsWithin 31 31 (vector_for d view form)
+whole_within = within_by 15
+
 pub half_within : (d : Decision) (view : View) (form : SearchForm) → reach form d.limits.search ≤ 7 → d.limits.search ≤ 15 → IsWithin 31 15 (vector_for d view form)
-unfolding vector_for
-half_within d view form down across =
-    let h = vector_within d.dims (view Y) d.source d.limits.row d.limits.column form d.limits.search in
-    record {
-      x = record { low = omega (arith, ints, h.x.low, across); high = omega (arith, ints, h.x.high, across) };
-      y = record { low = omega (arith, ints, h.y.low, down); high = omega (arith, ints, h.y.high, down) };
-    }
+half_within = within_by 7
 
 -- a vector from one of two fields
 from_near : (halved : Bool) (d : Decision) (view : View) (form : Lines → SearchForm) (own : Lines)

@@ -76,6 +76,12 @@ not_dual field form other = by_tests (nat_eq form 3) field (nat_eq form 2) (nat_
     by_tests false false two true e = refl
     by_tests false false two false e = refl
 
+-- two functions that agree at 0, at 1 and from 2 on
+from_two : {A : Type 0} (f g : ℕ → A) → f 0 ≡ g 0 → f 1 ≡ g 1 → ((n : ℕ) → f (suc (suc n)) ≡ g (suc (suc n))) → (n : ℕ) → f n ≡ g n
+from_two f g p q r zero = p
+from_two f g p q r (suc zero) = q
+from_two f g p q r (suc (suc n)) = r n
+
 module _ (c : PictureContext) (increment form : ℕ) (a b : Direction) where
   -- how a macroblock is predicted in directions
   abbrev by : Bool → Bool → Mode
@@ -83,31 +89,17 @@ module _ (c : PictureContext) (increment form : ℕ) (a b : Direction) where
 
   ahead_same : IsSameWay (by true false) (by true true) 0
   unfolding mode_of told_mode moving_syntax
-  ahead_same = record { vector = vector; bottom = bottom }
-    where
-      vector : (n k : ℕ) → component (by true false) n 0 k ≡ component (by true true) n 0 k
-      vector zero k = refl
-      vector (suc zero) k = refl
-      vector (suc (suc n)) k = refl
-
-      bottom : (n : ℕ) → is_bottom (by true false) n 0 ≡ is_bottom (by true true) n 0
-      bottom zero = refl
-      bottom (suc zero) = refl
-      bottom (suc (suc n)) = refl
+  ahead_same = record {
+    vector = λ n k. from_two (λ i. component (by true false) i 0 k) (λ i. component (by true true) i 0 k) refl refl (λ i. refl) n;
+    bottom = from_two (λ i. is_bottom (by true false) i 0) (λ i. is_bottom (by true true) i 0) refl refl (λ i. refl);
+  }
 
   behind_same : IsSameWay (by false true) (by true true) 1
   unfolding mode_of told_mode moving_syntax
-  behind_same = record { vector = vector; bottom = bottom }
-    where
-      vector : (n k : ℕ) → component (by false true) n 1 k ≡ component (by true true) n 1 k
-      vector zero k = refl
-      vector (suc zero) k = refl
-      vector (suc (suc n)) k = refl
-
-      bottom : (n : ℕ) → is_bottom (by false true) n 1 ≡ is_bottom (by true true) n 1
-      bottom zero = refl
-      bottom (suc zero) = refl
-      bottom (suc (suc n)) = refl
+  behind_same = record {
+    vector = λ n k. from_two (λ i. component (by false true) i 1 k) (λ i. component (by true true) i 1 k) refl refl (λ i. refl) n;
+    bottom = from_two (λ i. is_bottom (by false true) i 1) (λ i. is_bottom (by true true) i 1) refl refl (λ i. refl);
+  }
 
   pub both_is : (f g : View) (place : MbPlace) → form ≢ 3
       → zip2 mean (prediction_of f g c place (moving_syntax increment form true false a b)) (prediction_of f g c place (moving_syntax increment form false true a b))

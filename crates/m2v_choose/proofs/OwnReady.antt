@@ -13,7 +13,7 @@ use Rattle.m2v_choose.specs.Own.{IsOwn, AreNear, IsCode, IsOwnState}
 use Rattle.m2v_choose.proofs.Kept.{zero_near}
 
 -- the f_codes of a direction that is used are 2
-used_forward : (c : PictureContext) → IsOwn c → is_used c 0 ≡ true → f_codes_of c 0 ≡ 2 ∷ 2 ∷ []
+pub used_forward : (c : PictureContext) → IsOwn c → is_used c 0 ≡ true → f_codes_of c 0 ≡ 2 ∷ 2 ∷ []
 unfolding is_used
 used_forward c own used = elim (cases_lt c.kind 2) [
   | inl less ↦
@@ -26,7 +26,7 @@ used_forward c own used = elim (cases_lt c.kind 2) [
   ]
 ]
 
-used_backward : (c : PictureContext) → IsOwn c → is_used c 1 ≡ true → f_codes_of c 1 ≡ 2 ∷ 2 ∷ []
+pub used_backward : (c : PictureContext) → IsOwn c → is_used c 1 ≡ true → f_codes_of c 1 ≡ 2 ∷ 2 ∷ []
 unfolding is_used
 used_backward c own used = rw own.f_code (rw used refl)
 

@@ -139,23 +139,21 @@ module _ (s p : List ℕ) where
       omega (arith, six (block_squared true s p), luma_squared, from_none, by_fields 0, by_fields 8, chroma_squared 256, chroma_squared 320, b0, b1, b2, b3, b4, b5)
 
   -- two blocks one above the other have the same lines by either DCT type
+  same_lines : (k : ℕ) {upper lower even odd : ℕ} → upper ≡ lines (λ l. 16 * l + k) → lower ≡ lines (λ l. 16 * (8 + l) + k)
+      → even ≡ lines (λ l. 16 * (2 * l) + k) → odd ≡ lines (λ l. 16 * (2 * l + 1) + k) → upper + lower ≡ even + odd
+  same_lines k a b c d = omega (arith, by_halves k, by_fields k, a, b, c, d)
+
   pub left_lines : block_squared false s p 0 + block_squared false s p 2 ≡ block_squared true s p 0 + block_squared true s p 2
   unfolding block_place
   left_lines =
-      let a = block_lines false 0 (λ l. 16 * l + 0) (λ l. omega arith) in
-      let b = block_lines false 2 (λ l. 16 * (8 + l) + 0) (λ l. omega arith) in
-      let c = block_lines true 0 (λ l. 16 * (2 * l) + 0) (λ l. omega arith) in
-      let d = block_lines true 2 (λ l. 16 * (2 * l + 1) + 0) (λ l. omega arith) in
-      omega (arith, by_halves 0, by_fields 0, a, b, c, d)
+      same_lines 0 (block_lines false 0 (λ l. 16 * l + 0) (λ l. omega arith)) (block_lines false 2 (λ l. 16 * (8 + l) + 0) (λ l. omega arith))
+      (block_lines true 0 (λ l. 16 * (2 * l) + 0) (λ l. omega arith)) (block_lines true 2 (λ l. 16 * (2 * l + 1) + 0) (λ l. omega arith))
 
   pub right_lines : block_squared false s p 1 + block_squared false s p 3 ≡ block_squared true s p 1 + block_squared true s p 3
   unfolding block_place
   right_lines =
-      let a = block_lines false 1 (λ l. 16 * l + 8) (λ l. omega arith) in
-      let b = block_lines false 3 (λ l. 16 * (8 + l) + 8) (λ l. omega arith) in
-      let c = block_lines true 1 (λ l. 16 * (2 * l) + 8) (λ l. omega arith) in
-      let d = block_lines true 3 (λ l. 16 * (2 * l + 1) + 8) (λ l. omega arith) in
-      omega (arith, by_halves 8, by_fields 8, a, b, c, d)
+      same_lines 8 (block_lines false 1 (λ l. 16 * l + 8) (λ l. omega arith)) (block_lines false 3 (λ l. 16 * (8 + l) + 8) (λ l. omega arith))
+      (block_lines true 1 (λ l. 16 * (2 * l) + 8) (λ l. omega arith)) (block_lines true 3 (λ l. 16 * (2 * l + 1) + 8) (λ l. omega arith))
 
   -- and chroma blocks are the same
   pub blue_lines : block_squared false s p 4 ≡ block_squared true s p 4
@@ -377,13 +375,8 @@ all_squares dct s p ls pattern luma chroma bytes =
 
 -- the pattern of one block
 pub single_coded : (b : ℕ) → b < 6 → is_coded (32 / 2 ^ b) b ≡ true
-single_coded zero lt = refl
-single_coded (suc zero) lt = refl
-single_coded (suc (suc zero)) lt = refl
-single_coded (suc (suc (suc zero))) lt = refl
-single_coded (suc (suc (suc (suc zero)))) lt = refl
-single_coded (suc (suc (suc (suc (suc zero))))) lt = refl
-single_coded (suc (suc (suc (suc (suc (suc n)))))) lt = absurd (omega (arith, lt))
+unfolding below
+single_coded b lt = agree (λ j. is_coded (32 / 2 ^ j) j) (λ j. true) 6 b refl lt
 
 -- the place of the one bit that is 1 in it
 one_bit : (b k : ℕ) → b < 6 → k < 6 → is_coded (32 / 2 ^ b) k ≡ nat_eq k b

@@ -3,7 +3,7 @@ use Rattle.std.proofs.Common.{◌≡◌, ℕ, ◌<◌, ◌≤◌, Bool, true, fa
 use Rattle.std.specs.Prelude.{nat_eq, unsigned_abs, map}
 use Rattle.std.specs.List.{flat_map}
 use Rattle.std.proofs.lemmas.Int.{ints}
-use Rattle.std.proofs.lemmas.Bool.{and_parts, eqb-true, ne_eqb, true≢false}
+use Rattle.std.proofs.lemmas.Bool.{and_parts, eqb-true, ne_eqb, not-true, true≢false}
 use Rattle.std.proofs.lemmas.Grind.{flat_map-append}
 use Rattle.m2v_plane.specs.declared.dims.Dims.{Dims}
 use Rattle.m2v_plane.specs.declared.planes.Plane.{Plane}
@@ -69,10 +69,6 @@ one_of : (x y : Bool) → (x || y) ≡ true → (x ≡ true) ⊎ (y ≡ true)
 one_of true y e = inl refl
 one_of false y e = inr e
 
-pub not_true : (b : Bool) → not b ≡ true → b ≡ false
-not_true true e = absurd cc
-not_true false e = refl
-
 module _ (t : Task) (r : References) (ahead behind : Plane → Lines → ℕ → Type 0) (task : IsTask t) (other : Dims) (refs : AreReferences t.context.now.kind (place_for t) r.dims other ahead behind) where
   skip_two : t.context.now.kind ≡ 2 → SkipReads t.context.now.kind (place_for t) r.dims ahead behind (skipped_mode t.context.now t.state.now)
   unfolding skipped_mode without_motion_type
@@ -117,13 +113,13 @@ module _ (t : Task) (r : References) (ahead behind : Plane → Lines → ℕ →
       let d = decided r t in
       let stays = is_inside (skipped_mode d.context d.state) (place_of d) d.dims in
       let h = and_parts (not d.limits.first && not d.limits.last) (nat_eq d.context.kind 2 || (nat_eq d.context.kind 3 && not d.state.intra && stays)) may in
-      let first = not_true d.limits.first (and_parts (not d.limits.first) (not d.limits.last) h.0).0 in
+      let first = not-true d.limits.first (and_parts (not d.limits.first) (not d.limits.last) h.0).0 in
       elim (one_of (nat_eq d.context.kind 2) (nat_eq d.context.kind 3 && not d.state.intra && stays) h.1) [
         | inl two ↦ skip_two (eqb-true d.context.kind 2 two)
         | inr is ↦
             let k = and_parts (nat_eq d.context.kind 3) (not d.state.intra) (and_parts (nat_eq d.context.kind 3 && not d.state.intra) stays is).0 in
             let three = eqb-true d.context.kind 3 k.0 in
-            skip_three three (moved (not_true d.state.intra k.1) (told three first)) (inside three)
+            skip_three three (moved (not-true d.state.intra k.1) (told three first)) (inside three)
       ]
     where
       moved : t.state.now.intra ≡ false → (t.state.now.forward ≡ true) ⊎ ((t.state.now.backward ≡ true) ⊎ (t.state.now.intra ≡ true)) → (t.state.now.forward ≡ true) ⊎ (t.state.now.backward ≡ true)

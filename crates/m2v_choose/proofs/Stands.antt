@@ -1,7 +1,8 @@
 -- Each candidate can stand in its slice: its syntax up to the blocks.
-use Rattle.std.proofs.Common.{◌≡◌, ℕ, ◌≤◌, ◌<◌, Bool, true, false, cond, ◌&&◌, ◌||◌, not, ◌⊎◌, inl, inr, All, List, [], ◌∷◌, ◌++◌, refl, sym, subst, arith, ℤ, pos}
+use Rattle.std.proofs.Common.{◌≡◌, ℕ, ◌≤◌, ◌<◌, Bool, true, false, cond, ◌&&◌, ◌||◌, not, ◌⊎◌, inl, inr, All, List, [], ◌∷◌, ◌++◌, refl, ap, sym, subst, arith, ℤ, pos}
 use Rattle.std.specs.Prelude.{nat_eq, nat_lt, if◌then◌else◌}
-use Rattle.std.proofs.lemmas.Bool.{cases_lt, and_parts, eqb-true}
+use Rattle.std.proofs.Math.Bool.{and-false}
+use Rattle.std.proofs.lemmas.Bool.{cases_lt, and_parts, eqb-true, not-true}
 use Rattle.std.proofs.lemmas.Int.{ints}
 use Rattle.std.proofs.lemmas.List.Elements.{All-nil, All-cons, All-append}
 use Rattle.m2v_plane.specs.declared.planes.Lines.{Lines}
@@ -234,25 +235,14 @@ plain_number field = if field then 1 else 2
 abbrev none_number : Bool → ℕ
 none_number field = if field then 0 else 2
 
+not_dual : (kind : ℕ) → not (nat_eq kind 3 && false) ≡ true
+not_dual kind = ap not (and-false (nat_eq kind 3))
+
 -- where a prediction with a motion type has it, and where it has none
 form_stands : (kind form : ℕ) → (form ≡ 1) ⊎ (form ≡ 2) → (is_form kind form ≡ true) × (form < 4)
 unfolding is_form
 form_stands kind form (inl one) = rw one (not_dual kind, omega arith)
-  where
-    not_dual : (k : ℕ) → not (nat_eq k 3 && false) ≡ true
-    not_dual k = no (nat_eq k 3)
-      where
-        no : (b : Bool) → not (b && false) ≡ true
-        no true = refl
-        no false = refl
 form_stands kind form (inr two) = rw two (not_dual kind, omega arith)
-  where
-    not_dual : (k : ℕ) → not (nat_eq k 3 && false) ≡ true
-    not_dual k = no (nat_eq k 3)
-      where
-        no : (b : Bool) → not (b && false) ≡ true
-        no true = refl
-        no false = refl
 
 plain_forms : (field : Bool) → (plain_number field ≡ 1) ⊎ (plain_number field ≡ 2)
 plain_forms true = inl refl
@@ -370,15 +360,11 @@ module _ (d : Decision) (own : IsOwn d.context) where
   fields_all le kind has =
       let field = is_field d.context in
       let parts = and_parts (not field) (not d.context.extension.frame_pred_frame_dct) has in
-      let frame : field ≡ false = not_true field parts.0 in
+      let frame : field ≡ false = not-true field parts.0 in
       by_stands 1 (field_direction d d.forward) (field_direction d d.backward) kind (inl refl)
       (λ e. absurd (field_told field d.context.extension.frame_pred_frame_dct has e))
       (subst (λ (b : Bool). DirectionStands (shape_of b 1) (field_direction d d.forward)) (sym frame) (field_stands d d.forward le))
       (subst (λ (b : Bool). DirectionStands (shape_of b 1) (field_direction d d.backward)) (sym frame) (field_stands d d.backward le))
-    where
-      not_true : (b : Bool) → not b ≡ true → b ≡ false
-      not_true true e = absurd cc
-      not_true false e = refl
 
   -- where a test holds, its list
   where_holds : (P : Prediction → Type 0) (b : Bool) (xs : List Prediction) → (b ≡ true → All P xs) → All P (cond b xs [])
@@ -433,15 +419,11 @@ module _ (d : Decision) (own : IsOwn d.context) where
   fields_one le has hf hb kind =
       let field = is_field d.context in
       let parts = and_parts (not field) (not d.context.extension.frame_pred_frame_dct) has in
-      let frame : field ≡ false = not_true field parts.0 in
+      let frame : field ≡ false = not-true field parts.0 in
       prediction_stands d.context own 1 hf hb (field_direction d d.forward) (field_direction d d.backward) kind (inl refl)
       (λ e. absurd (field_told field d.context.extension.frame_pred_frame_dct has e))
       (subst (λ (b : Bool). DirectionStands (shape_of b 1) (field_direction d d.forward)) (sym frame) (field_stands d d.forward le))
       (subst (λ (b : Bool). DirectionStands (shape_of b 1) (field_direction d d.backward)) (sym frame) (field_stands d d.backward le))
-    where
-      not_true : (b : Bool) → not b ≡ true → b ≡ false
-      not_true true e = absurd cc
-      not_true false e = refl
 
   pub zero_one : d.context.kind ≡ 2 → PredictionStands d.context (zero_prediction d)
   zero_one two = zero_stands d.context own two

@@ -56,7 +56,7 @@ levels_within f kind = All-map IsLevel (level_at f kind) (range_with_len 0 64) (
 
 -- ---- patterns
 
-abbrev one_of : Bool → ℕ
+abbrev pub one_of : Bool → ℕ
 one_of z = cond z 0 1
 
 one_if : (z : Bool) (w : ℕ) → cond z 0 w ≡ w * one_of z
@@ -71,57 +71,51 @@ most_one false = omega arith
 six : ℕ → ℕ → ℕ → ℕ → ℕ → ℕ → ℕ
 six a b c d e f = 32 * a + 16 * b + 8 * c + 4 * d + 2 * e + f
 
-bit_zero : (a b c d e f : ℕ) → a ≤ 1 → b ≤ 1 → c ≤ 1 → d ≤ 1 → e ≤ 1 → f ≤ 1 → six a b c d e f / 32 % 2 ≡ a
-unfolding six
-bit_zero a b c d e f p q r s t u = omega arith
+-- each of its bits
+pub record SixBits (p a b c d e f : ℕ) : Type 0 where
+  pub first : p / 32 % 2 ≡ a
+  pub second : p / 16 % 2 ≡ b
+  pub third : p / 8 % 2 ≡ c
+  pub fourth : p / 4 % 2 ≡ d
+  pub fifth : p / 2 % 2 ≡ e
+  pub sixth : p / 1 % 2 ≡ f
 
-bit_one : (a b c d e f : ℕ) → a ≤ 1 → b ≤ 1 → c ≤ 1 → d ≤ 1 → e ≤ 1 → f ≤ 1 → six a b c d e f / 16 % 2 ≡ b
+six_bits : (a b c d e f : ℕ) → a ≤ 1 → b ≤ 1 → c ≤ 1 → d ≤ 1 → e ≤ 1 → f ≤ 1 → SixBits (six a b c d e f) a b c d e f
 unfolding six
-bit_one a b c d e f p q r s t u = omega arith
+six_bits a b c d e f p q r s t u = record { first = omega arith; second = omega arith; third = omega arith; fourth = omega arith; fifth = omega arith; sixth = omega arith }
 
-bit_two : (a b c d e f : ℕ) → a ≤ 1 → b ≤ 1 → c ≤ 1 → d ≤ 1 → e ≤ 1 → f ≤ 1 → six a b c d e f / 8 % 2 ≡ c
-unfolding six
-bit_two a b c d e f p q r s t u = omega arith
-
-bit_three : (a b c d e f : ℕ) → a ≤ 1 → b ≤ 1 → c ≤ 1 → d ≤ 1 → e ≤ 1 → f ≤ 1 → six a b c d e f / 4 % 2 ≡ d
-unfolding six
-bit_three a b c d e f p q r s t u = omega arith
-
-bit_four : (a b c d e f : ℕ) → a ≤ 1 → b ≤ 1 → c ≤ 1 → d ≤ 1 → e ≤ 1 → f ≤ 1 → six a b c d e f / 2 % 2 ≡ e
-unfolding six
-bit_four a b c d e f p q r s t u = omega arith
-
-bit_five : (a b c d e f : ℕ) → a ≤ 1 → b ≤ 1 → c ≤ 1 → d ≤ 1 → e ≤ 1 → f ≤ 1 → six a b c d e f / 1 % 2 ≡ f
-unfolding six
-bit_five a b c d e f p q r s t u = omega arith
-
-empty : List (List ℤ) → ℕ → Bool
+abbrev pub empty : List (List ℤ) → ℕ → Bool
 empty ls b = is_empty (slice_index_or ls b [])
 
-number : List (List ℤ) → ℕ → ℕ
+abbrev pub number : List (List ℤ) → ℕ → ℕ
 number ls b = one_of (empty ls b)
 
 pattern_is : (ls : List (List ℤ)) → pattern_of ls ≡ six (number ls 0) (number ls 1) (number ls 2) (number ls 3) (number ls 4) (number ls 5)
-unfolding pattern_of six number empty
+unfolding pattern_of six
 pattern_is ls =
     let z = λ (b : ℕ). is_empty (slice_index_or ls b []) in
     omega (arith, one_if (z 0) 32, one_if (z 1) 16, one_if (z 2) 8, one_if (z 3) 4, one_if (z 4) 2, one_if (z 5) 1)
 
 number_most : (ls : List (List ℤ)) (b : ℕ) → number ls b ≤ 1
-unfolding number
 number_most ls b = most_one (empty ls b)
 
 pub pattern_most : (ls : List (List ℤ)) → pattern_of ls < 64
 unfolding six
 pattern_most ls = omega (arith, pattern_is ls, number_most ls 0, number_most ls 1, number_most ls 2, number_most ls 3, number_most ls 4, number_most ls 5)
 
+pub pattern_bits : (ls : List (List ℤ)) → SixBits (pattern_of ls) (number ls 0) (number ls 1) (number ls 2) (number ls 3) (number ls 4) (number ls 5)
+pattern_bits ls =
+    let n = number ls in
+    subst (λ (p : ℕ). SixBits p (n 0) (n 1) (n 2) (n 3) (n 4) (n 5)) (sym (pattern_is ls))
+    (six_bits (n 0) (n 1) (n 2) (n 3) (n 4) (n 5) (number_most ls 0) (number_most ls 1) (number_most ls 2) (number_most ls 3) (number_most ls 4) (number_most ls 5))
+
 coded_number : (ls : List (List ℤ)) (b : ℕ) → b < 6 → is_coded (pattern_of ls) b ≡ true → number ls b ≡ 1
-coded_number ls zero lt e = sym (bit_zero _ _ _ _ _ _ (number_most ls 0) (number_most ls 1) (number_most ls 2) (number_most ls 3) (number_most ls 4) (number_most ls 5)) ∙ ap (λ p. p / 32 % 2) (sym (pattern_is ls)) ∙ eqb-true _ _ e
-coded_number ls (suc zero) lt e = sym (bit_one _ _ _ _ _ _ (number_most ls 0) (number_most ls 1) (number_most ls 2) (number_most ls 3) (number_most ls 4) (number_most ls 5)) ∙ ap (λ p. p / 16 % 2) (sym (pattern_is ls)) ∙ eqb-true _ _ e
-coded_number ls (suc (suc zero)) lt e = sym (bit_two _ _ _ _ _ _ (number_most ls 0) (number_most ls 1) (number_most ls 2) (number_most ls 3) (number_most ls 4) (number_most ls 5)) ∙ ap (λ p. p / 8 % 2) (sym (pattern_is ls)) ∙ eqb-true _ _ e
-coded_number ls (suc (suc (suc zero))) lt e = sym (bit_three _ _ _ _ _ _ (number_most ls 0) (number_most ls 1) (number_most ls 2) (number_most ls 3) (number_most ls 4) (number_most ls 5)) ∙ ap (λ p. p / 4 % 2) (sym (pattern_is ls)) ∙ eqb-true _ _ e
-coded_number ls (suc (suc (suc (suc zero)))) lt e = sym (bit_four _ _ _ _ _ _ (number_most ls 0) (number_most ls 1) (number_most ls 2) (number_most ls 3) (number_most ls 4) (number_most ls 5)) ∙ ap (λ p. p / 2 % 2) (sym (pattern_is ls)) ∙ eqb-true _ _ e
-coded_number ls (suc (suc (suc (suc (suc zero))))) lt e = sym (bit_five _ _ _ _ _ _ (number_most ls 0) (number_most ls 1) (number_most ls 2) (number_most ls 3) (number_most ls 4) (number_most ls 5)) ∙ ap (λ p. p / 1 % 2) (sym (pattern_is ls)) ∙ eqb-true _ _ e
+coded_number ls zero lt e = sym (pattern_bits ls).first ∙ eqb-true _ _ e
+coded_number ls (suc zero) lt e = sym (pattern_bits ls).second ∙ eqb-true _ _ e
+coded_number ls (suc (suc zero)) lt e = sym (pattern_bits ls).third ∙ eqb-true _ _ e
+coded_number ls (suc (suc (suc zero))) lt e = sym (pattern_bits ls).fourth ∙ eqb-true _ _ e
+coded_number ls (suc (suc (suc (suc zero)))) lt e = sym (pattern_bits ls).fifth ∙ eqb-true _ _ e
+coded_number ls (suc (suc (suc (suc (suc zero))))) lt e = sym (pattern_bits ls).sixth ∙ eqb-true _ _ e
 coded_number ls (suc (suc (suc (suc (suc (suc n)))))) lt e = absurd (omega arith)
 
 -- a block that is coded has a level other than 0
@@ -130,7 +124,6 @@ some_if true e = absurd (omega (arith, e))
 some_if false e = refl
 
 pub coded_some : (ls : List (List ℤ)) (b : ℕ) → b < 6 → is_coded (pattern_of ls) b ≡ true → block_levels ls b ≢ replicate 64 (pos 0)
-unfolding number empty
 coded_some ls b lt e same =
     let not_empty : is_empty (slice_index_or ls b []) ≡ false = some_if (is_empty (slice_index_or ls b [])) (coded_number ls b lt e) in
     let is : is_empty (slice_index_or ls b []) ≡ true = ap is_empty same in

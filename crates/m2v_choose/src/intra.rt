@@ -20,7 +20,7 @@ use crate::task::Task;
 use crate::trial::{Best, bit_cost, no_levels, no_prediction, rebuilt_block};
 use m2v_macro::{MacroSyntax, macro_bits};
 use m2v_macroblock::block::intra_bits;
-use m2v_macroblock::kinds;
+use m2v_macroblock::{kinds, predictor};
 use m2v_pred::Block16;
 use m2v_quant::{BlockKind, Levels};
 
@@ -39,24 +39,6 @@ fn part_score(task: &Task, bits: u32, squares: u32) -> u64
     ensures { result ≡ (2 * task.now.limits.now.q) ^ 2 * bits + 8 * squares }
 {
     bit_cost(task.limits, bits) + 8 * u64::from(squares)
-}
-
-/// The DC predictor of a block: that of its component, or the DC level of the luma block before it (clause 7.2.1).
-#[inline(always)]
-#[tactic(auto, unfolding(m2v_macroblock::specs::Macroblocks::predictor))]
-fn predictor(dc: &[i32; 3], levels: &[Levels; 6], block: usize) -> i32
-    requires { block < 6 }
-    ensures { result ≡ predictor_of dc.now (levels_of levels.now) block }
-{
-    if block < 4 {
-        if block == 0 {
-            dc[0]
-        } else {
-            levels[block - 1].at[0]
-        }
-    } else {
-        dc[block - 3]
-    }
 }
 
 /// How many bits an intra block takes whose levels are made, and those of the block before it.

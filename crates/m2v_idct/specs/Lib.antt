@@ -5,3 +5,4 @@ pub mod Inverse
 pub mod Ranges
 pub mod RowSums
 pub mod Sums
+pub mod Terms

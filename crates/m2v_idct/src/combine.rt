@@ -2,6 +2,7 @@ ghost use Rattle.std.specs.Prelude.{◌≡◌, ◌<◌, ◌+ℤ◌, ◌-ℤ◌, 
 ghost use Rattle.std.specs.Int.{int_shr};
 ghost use Rattle.m2v_idct.specs.Inverse.{combine, scaled};
 ghost use Rattle.m2v_idct.specs.Ranges.{Within};
+ghost use Rattle.m2v_idct.specs.Terms.{AreTerms};
 
 // What the results of a row or a column are made of: the odd inputs turned in pairs, the inputs 2
 // and 6 turned, and the sum and the difference of the inputs 0 and 4.
@@ -21,69 +22,49 @@ pub struct Terms {
 #[inline(always)]
 pub fn combine_terms(t: &Terms, n: u32) -> [i32; 8]
     requires n { n < 32 }
-    requires a1 { Within 82000000 t.now.a1 }
-    requires a7 { Within 82000000 t.now.a7 }
-    requires a5 { Within 82000000 t.now.a5 }
-    requires a3 { Within 82000000 t.now.a3 }
-    requires e2 { Within 82000000 t.now.e2 }
-    requires e6 { Within 82000000 t.now.e6 }
-    requires p { Within 82000000 t.now.p }
-    requires m { Within 82000000 t.now.m }
+    requires terms { AreTerms t.now }
     ensures { result ≡ combine t.now.a1 t.now.a7 t.now.a5 t.now.a3 t.now.e2 t.now.e6 t.now.p t.now.m
         n }
 {
     join_parts(even_part(t), odd_part(t), n)
 }
 
-// What is added to and taken from the even part.
+// Four sums: those of the even part, or what is added to them and taken from them.
 #[derive(Clone, Copy)]
-struct Odd {
-    o0: i32,
-    o1: i32,
-    o2: i32,
-    o3: i32,
-}
-
-#[inline(always)]
-fn odd_part(t: &Terms) -> Odd
-    requires a1 { Within 82000000 t.now.a1 }
-    requires a7 { Within 82000000 t.now.a7 }
-    requires a5 { Within 82000000 t.now.a5 }
-    requires a3 { Within 82000000 t.now.a3 }
-    ensures o0 { result.o0 ≡ t.now.a1 +ℤ t.now.a5 }
-    ensures o3 { result.o3 ≡ t.now.a7 +ℤ t.now.a3 }
-    ensures o1 { result.o1 ≡ scaled ((t.now.a1 -ℤ t.now.a5) +ℤ (t.now.a7 -ℤ t.now.a3)) }
-    ensures o2 { result.o2 ≡ scaled ((t.now.a1 -ℤ t.now.a5) -ℤ (t.now.a7 -ℤ t.now.a3)) }
-    ensures o0_within { Within 235000000 result.o0 }
-    ensures o1_within { Within 235000000 result.o1 }
-    ensures o2_within { Within 235000000 result.o2 }
-    ensures o3_within { Within 235000000 result.o3 }
-{
-    let p = difference(t.a1, t.a5);
-    let r = difference(t.a7, t.a3);
-    Odd {
-        o0: sum(t.a1, t.a5),
-        o1: scale(wide_sum(p, r)),
-        o2: scale(wide_difference(p, r)),
-        o3: sum(t.a7, t.a3),
-    }
-}
-
-// The four sums of the even part.
-#[derive(Clone, Copy)]
-struct Even {
+struct Part {
     s0: i32,
     s1: i32,
     s2: i32,
     s3: i32,
 }
 
+// What is added to and taken from the even part.
 #[inline(always)]
-fn even_part(t: &Terms) -> Even
-    requires e2 { Within 82000000 t.now.e2 }
-    requires e6 { Within 82000000 t.now.e6 }
-    requires p { Within 82000000 t.now.p }
-    requires m { Within 82000000 t.now.m }
+fn odd_part(t: &Terms) -> Part
+    requires terms { AreTerms t.now }
+    ensures o0 { result.s0 ≡ t.now.a1 +ℤ t.now.a5 }
+    ensures o3 { result.s3 ≡ t.now.a7 +ℤ t.now.a3 }
+    ensures o1 { result.s1 ≡ scaled ((t.now.a1 -ℤ t.now.a5) +ℤ (t.now.a7 -ℤ t.now.a3)) }
+    ensures o2 { result.s2 ≡ scaled ((t.now.a1 -ℤ t.now.a5) -ℤ (t.now.a7 -ℤ t.now.a3)) }
+    ensures o0_within { Within 235000000 result.s0 }
+    ensures o1_within { Within 235000000 result.s1 }
+    ensures o2_within { Within 235000000 result.s2 }
+    ensures o3_within { Within 235000000 result.s3 }
+{
+    let p = t.a1 - t.a5;
+    let r = t.a7 - t.a3;
+    Part {
+        s0: t.a1 + t.a5,
+        s1: scale(p + r),
+        s2: scale(p - r),
+        s3: t.a7 + t.a3,
+    }
+}
+
+// The four sums of the even part.
+#[inline(always)]
+fn even_part(t: &Terms) -> Part
+    requires terms { AreTerms t.now }
     ensures s0 { result.s0 ≡ t.now.p +ℤ t.now.e2 }
     ensures s1 { result.s1 ≡ t.now.m +ℤ t.now.e6 }
     ensures s2 { result.s2 ≡ t.now.m -ℤ t.now.e6 }
@@ -93,7 +74,7 @@ fn even_part(t: &Terms) -> Even
     ensures s2_within { Within 164000000 result.s2 }
     ensures s3_within { Within 164000000 result.s3 }
 {
-    Even {
+    Part {
         s0: t.p + t.e2,
         s1: t.m + t.e6,
         s2: t.m - t.e6,
@@ -102,72 +83,32 @@ fn even_part(t: &Terms) -> Even
 }
 
 #[inline(always)]
-fn join_parts(even: Even, odd: Odd, n: u32) -> [i32; 8]
+fn join_parts(even: Part, odd: Part, n: u32) -> [i32; 8]
     requires n { n < 32 }
     requires s0 { Within 164000000 even.s0 }
     requires s1 { Within 164000000 even.s1 }
     requires s2 { Within 164000000 even.s2 }
     requires s3 { Within 164000000 even.s3 }
-    requires o0 { Within 235000000 odd.o0 }
-    requires o1 { Within 235000000 odd.o1 }
-    requires o2 { Within 235000000 odd.o2 }
-    requires o3 { Within 235000000 odd.o3 }
+    requires o0 { Within 235000000 odd.s0 }
+    requires o1 { Within 235000000 odd.s1 }
+    requires o2 { Within 235000000 odd.s2 }
+    requires o3 { Within 235000000 odd.s3 }
     ensures { result
-        ≡ int_shr (even.s0 +ℤ odd.o0) n ∷ int_shr (even.s1 +ℤ odd.o1) n
-        ∷ int_shr (even.s2 +ℤ odd.o2) n ∷ int_shr (even.s3 +ℤ odd.o3) n
-        ∷ int_shr (even.s3 -ℤ odd.o3) n ∷ int_shr (even.s2 -ℤ odd.o2) n
-        ∷ int_shr (even.s1 -ℤ odd.o1) n ∷ int_shr (even.s0 -ℤ odd.o0) n ∷ [] }
+        ≡ int_shr (even.s0 +ℤ odd.s0) n ∷ int_shr (even.s1 +ℤ odd.s1) n
+        ∷ int_shr (even.s2 +ℤ odd.s2) n ∷ int_shr (even.s3 +ℤ odd.s3) n
+        ∷ int_shr (even.s3 -ℤ odd.s3) n ∷ int_shr (even.s2 -ℤ odd.s2) n
+        ∷ int_shr (even.s1 -ℤ odd.s1) n ∷ int_shr (even.s0 -ℤ odd.s0) n ∷ [] }
 {
     [
-        shift_sum(even.s0, odd.o0, n),
-        shift_sum(even.s1, odd.o1, n),
-        shift_sum(even.s2, odd.o2, n),
-        shift_sum(even.s3, odd.o3, n),
-        shift_difference(even.s3, odd.o3, n),
-        shift_difference(even.s2, odd.o2, n),
-        shift_difference(even.s1, odd.o1, n),
-        shift_difference(even.s0, odd.o0, n),
+        shift_sum(even.s0, odd.s0, n),
+        shift_sum(even.s1, odd.s1, n),
+        shift_sum(even.s2, odd.s2, n),
+        shift_sum(even.s3, odd.s3, n),
+        shift_difference(even.s3, odd.s3, n),
+        shift_difference(even.s2, odd.s2, n),
+        shift_difference(even.s1, odd.s1, n),
+        shift_difference(even.s0, odd.s0, n),
     ]
-}
-
-#[inline(always)]
-fn sum(x: i32, y: i32) -> i32
-    requires x { Within 82000000 x }
-    requires y { Within 82000000 y }
-    ensures value { result ≡ x +ℤ y }
-    ensures within { Within 164000000 result }
-{
-    x + y
-}
-
-#[inline(always)]
-fn difference(x: i32, y: i32) -> i32
-    requires x { Within 82000000 x }
-    requires y { Within 82000000 y }
-    ensures value { result ≡ x -ℤ y }
-    ensures within { Within 164000000 result }
-{
-    x - y
-}
-
-#[inline(always)]
-fn wide_sum(x: i32, y: i32) -> i32
-    requires x { Within 164000000 x }
-    requires y { Within 164000000 y }
-    ensures value { result ≡ x +ℤ y }
-    ensures within { Within 328000000 result }
-{
-    x + y
-}
-
-#[inline(always)]
-fn wide_difference(x: i32, y: i32) -> i32
-    requires x { Within 164000000 x }
-    requires y { Within 164000000 y }
-    ensures value { result ≡ x -ℤ y }
-    ensures within { Within 328000000 result }
-{
-    x - y
 }
 
 #[inline(always)]

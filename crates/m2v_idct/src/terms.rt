@@ -2,6 +2,7 @@ ghost use Rattle.std.specs.Prelude.{◌≡◌, All, ◌+ℤ◌, ◌-ℤ◌, ◌*
 ghost use Rattle.m2v_idct.specs.Block.{nth};
 ghost use Rattle.m2v_idct.specs.Inverse.{eighth, w1, w2, w3, w5, w6, w7};
 ghost use Rattle.m2v_idct.specs.Ranges.{Within};
+ghost use Rattle.m2v_idct.specs.Terms.{AreTerms};
 
 use crate::combine::Terms;
 
@@ -30,14 +31,7 @@ pub fn column_terms(c: &[i32; 8]) -> Terms
     ensures e6 { result.e6 ≡ eighth (w6 *ℤ nth c.now 2 -ℤ w2 *ℤ nth c.now 6) }
     ensures p { result.p ≡ pos 256 *ℤ (nth c.now 0 +ℤ nth c.now 4) +ℤ pos 8192 }
     ensures m { result.m ≡ pos 256 *ℤ (nth c.now 0 -ℤ nth c.now 4) +ℤ pos 8192 }
-    ensures a1_within { Within 82000000 result.a1 }
-    ensures a7_within { Within 82000000 result.a7 }
-    ensures a5_within { Within 82000000 result.a5 }
-    ensures a3_within { Within 82000000 result.a3 }
-    ensures e2_within { Within 82000000 result.e2 }
-    ensures e6_within { Within 82000000 result.e6 }
-    ensures p_within { Within 82000000 result.p }
-    ensures m_within { Within 82000000 result.m }
+    ensures terms { AreTerms result }
 {
     Terms {
         a1: eighth_of(one_plus(c[1], c[7])),

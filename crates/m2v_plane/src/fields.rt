@@ -2,11 +2,12 @@ ghost use Rattle.std.specs.Prelude.{ℕ, ◌≡◌, ◌+◌, ◌-◌, ◌*◌, �
 ghost use Rattle.std.specs.Option.{option_map};
 ghost use Rattle.m2v_plane.specs.Sizes.{IsSize, lines_of, columns_of};
 ghost use Rattle.m2v_plane.specs.Samples.{sample_in, line_part};
+ghost use Rattle.m2v_plane.specs.Fields.{or_none};
 
 use crate::dims::Dims;
 use crate::frame::Frame;
 use crate::planes::{Lines, Plane};
-use crate::view::{RefView, Window};
+use crate::view::{LineParts, RefView, Window};
 use std::marker::Model;
 
 /// A reference whose top field stands in one frame and whose bottom field in another, or not at all. It is read as a
@@ -79,22 +80,22 @@ fn lent_window<'b>(
     frame: &Option<&'b Frame>,
     plane: Plane,
     lines: Lines,
-    line: u32,
-    count: u32,
-    column: u32,
-    len: u32,
+    parts: LineParts,
 ) -> Option<Window<'b>>
-    requires some { 1 ≤ count }
-    requires lines { IfSome frame.now
-        (λ f. (k : ℕ) → k < count → line + k < lines_of f.now.dims plane lines) }
-    requires within { IfSome frame.now (λ f. column + len ≤ columns_of f.now.dims plane) }
-    ensures fits { IfSome result (λ w. (count - 1) * w.stride + len ≤ length w.samples.now) }
-    ensures value { IfSome frame.now (λ f. IfSome result (λ w. (k : ℕ) → k < count
-        → take len (drop (k * w.stride) w.samples.now)
-        ≡ line_part (sample_in f.now plane lines (line + k)) column len)) }
+    requires some { 1 ≤ parts.count }
+    requires lines { IfSome frame.now (λ f. (k : ℕ) → k < parts.count
+        → parts.line + k < lines_of f.now.dims plane lines) }
+    requires within { IfSome frame.now (λ f. parts.column + parts.len
+        ≤ columns_of f.now.dims plane) }
+    ensures fits { IfSome result (λ w. (parts.count - 1) * w.stride + parts.len
+        ≤ length w.samples.now) }
+    ensures value { IfSome result (λ w. (k : ℕ) → k < parts.count
+        → take parts.len (drop (k * w.stride) w.samples.now)
+        ≡ line_part (sample_in (or_none (option_map (λ f. f.now) frame.now)) plane lines
+        (parts.line + k)) parts.column parts.len) }
 {
     match frame {
-        Some(frame) => frame.window(plane, lines, line, count, column, len),
+        Some(frame) => frame.window(plane, lines, parts),
         None => None,
     }
 }
@@ -125,27 +126,11 @@ impl<'a> RefView for FieldView<'a> {
 
     #[inline(always)]
     #[tactic(auto, unfolding(crate::specs::Fields::lines_there, crate::specs::Fields::sample_from))]
-    fn window(
-        &self,
-        plane: Plane,
-        lines: Lines,
-        line: u32,
-        count: u32,
-        column: u32,
-        len: u32,
-    ) -> Option<Window<'_>> {
+    fn window(&self, plane: Plane, lines: Lines, parts: LineParts) -> Option<Window<'_>> {
         match lines {
-            Lines::Whole => lent_window(&self.top, plane, Lines::Whole, line, count, column, len),
-            Lines::Top => lent_window(&self.top, plane, Lines::Top, line, count, column, len),
-            Lines::Bottom => lent_window(
-                &self.bottom,
-                plane,
-                Lines::Bottom,
-                line,
-                count,
-                column,
-                len,
-            ),
+            Lines::Whole => lent_window(&self.top, plane, Lines::Whole, parts),
+            Lines::Top => lent_window(&self.top, plane, Lines::Top, parts),
+            Lines::Bottom => lent_window(&self.bottom, plane, Lines::Bottom, parts),
         }
     }
 }

@@ -8,7 +8,7 @@ use crate::dims::Dims;
 use crate::moves::{self, Square, line_start, stride_of};
 use crate::planes::{Lines, Plane};
 use crate::row::RowSamples;
-use crate::view::{RefView, Window};
+use crate::view::{LineParts, RefView, Window};
 use std::alloc::Global;
 use std::marker::Model;
 
@@ -261,31 +261,26 @@ impl Frame {
         let (row, column) = (row as usize, column as usize);
         match plane {
             Plane::Y => {
-                let (lines_in, wide) = (16 * total, 16 * columns);
-                let square = Square {
-                    side: 16,
-                    row,
-                    column,
-                };
-                moves::set_square(&mut self.luma, lines_in, wide, lines, square, samples);
+                let side = 16;
+                let square = Square { side, row, column };
+                moves::set_square(
+                    &mut self.luma,
+                    16 * total,
+                    16 * columns,
+                    lines,
+                    square,
+                    samples,
+                );
             }
             Plane::Cb => {
-                let (lines_in, wide) = (8 * total, 8 * columns);
-                let square = Square {
-                    side: 8,
-                    row,
-                    column,
-                };
-                moves::set_square(&mut self.cb, lines_in, wide, lines, square, samples);
+                let side = 8;
+                let square = Square { side, row, column };
+                moves::set_square(&mut self.cb, 8 * total, 8 * columns, lines, square, samples);
             }
             Plane::Cr => {
-                let (lines_in, wide) = (8 * total, 8 * columns);
-                let square = Square {
-                    side: 8,
-                    row,
-                    column,
-                };
-                moves::set_square(&mut self.cr, lines_in, wide, lines, square, samples);
+                let side = 8;
+                let square = Square { side, row, column };
+                moves::set_square(&mut self.cr, 8 * total, 8 * columns, lines, square, samples);
             }
         }
     }
@@ -327,18 +322,11 @@ impl RefView for Frame {
     }
 
     #[inline(always)]
-    fn window(
-        &self,
-        plane: Plane,
-        lines: Lines,
-        line: u32,
-        _count: u32,
-        column: u32,
-        _len: u32,
-    ) -> Option<Window<'_>> {
+    fn window(&self, plane: Plane, lines: Lines, parts: LineParts) -> Option<Window<'_>> {
         let side = plane.side() as usize;
         let (total, columns) = (self.dims.mb_rows as usize, self.dims.mb_width as usize);
-        let from = line_start(lines, line as usize, side * total, side * columns) + column as usize;
+        let (line, column) = (parts.line as usize, parts.column as usize);
+        let from = line_start(lines, line, side * total, side * columns) + column;
         Some(Window {
             samples: &self.plane(plane)[from..],
             stride: stride_of(lines, side * columns),

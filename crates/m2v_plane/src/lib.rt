@@ -14,9 +14,9 @@ pub use dims::{Dims, bytes_of};
 pub use fields::FieldView;
 pub use frame::{Frame, FrameRoom};
 pub use laws::{law_crop_pad, law_raw_cut};
-pub use planes::{Lines, Plane};
+pub use planes::{Lines, Plane, luma_lines};
 pub use row::{RowRoom, RowSamples};
-pub use view::{RefView, Window};
+pub use view::{LineParts, RefView, Window};
 
 /// Want of memory.
 pub type Memory = std::alloc::AllocError;

@@ -1,5 +1,8 @@
 ghost use Rattle.std.specs.Prelude.{◌≡◌, ◌≤◌, ◌*◌, ◌+◌};
-ghost use Rattle.m2v_plane.specs.Sizes.{frame_line};
+ghost use Rattle.m2v_plane.specs.declared.planes.Plane.TheVariants.{Y};
+ghost use Rattle.m2v_plane.specs.Sizes.{IsSize, frame_line, lines_of};
+
+use crate::dims::Dims;
 
 /// A plane of samples (clause 6.1.1).
 #[derive(Clone, Copy, Debug, PartialEq, Eq)]
@@ -38,6 +41,19 @@ impl Plane {
             Plane::Y => 16,
             Plane::Cb | Plane::Cr => 8,
         }
+    }
+}
+
+/// The luma lines of the whole frame or of one field.
+#[inline(always)]
+pub fn luma_lines(dims: Dims, lines: Lines) -> u32
+    requires size { IsSize dims }
+    ensures value { result ≡ lines_of dims Y lines }
+    ensures most { result ≤ 1152 }
+{
+    match lines {
+        Lines::Whole => 16 * dims.mb_rows,
+        Lines::Top | Lines::Bottom => 8 * dims.mb_rows,
     }
 }
 

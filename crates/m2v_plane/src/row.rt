@@ -202,34 +202,22 @@ impl RowSamples {
         let columns = self.dims.mb_width as usize;
         let (luma, chroma) = self.samples.split_at_mut(256 * columns);
         let (cb, cr) = chroma.split_at_mut(64 * columns);
-        let (lines, column) = (Lines::Whole, column as usize);
+        let (lines, row, column) = (Lines::Whole, 0, column as usize);
         match plane {
             Plane::Y => {
-                let wide = 16 * columns;
-                let square = Square {
-                    side: 16,
-                    row: 0,
-                    column,
-                };
-                moves::set_square(luma, 16, wide, lines, square, samples);
+                let side = 16;
+                let square = Square { side, row, column };
+                moves::set_square(luma, 16, 16 * columns, lines, square, samples);
             }
             Plane::Cb => {
-                let wide = 8 * columns;
-                let square = Square {
-                    side: 8,
-                    row: 0,
-                    column,
-                };
-                moves::set_square(cb, 8, wide, lines, square, samples);
+                let side = 8;
+                let square = Square { side, row, column };
+                moves::set_square(cb, 8, 8 * columns, lines, square, samples);
             }
             Plane::Cr => {
-                let wide = 8 * columns;
-                let square = Square {
-                    side: 8,
-                    row: 0,
-                    column,
-                };
-                moves::set_square(cr, 8, wide, lines, square, samples);
+                let side = 8;
+                let square = Square { side, row, column };
+                moves::set_square(cr, 8, 8 * columns, lines, square, samples);
             }
         }
     }

@@ -18,6 +18,19 @@ pub struct Window<'a> {
     pub stride: usize,
 }
 
+/// Parts of lines one after another, all of one length and from one column on.
+#[derive(Clone, Copy)]
+pub struct LineParts {
+    /// The first line.
+    pub line: u32,
+    /// How many lines there are.
+    pub count: u32,
+    /// The column of the first sample of each part.
+    pub column: u32,
+    /// How many samples each part has.
+    pub len: u32,
+}
+
 /// Samples of a reference picture, as prediction reads them. What is read is the view's sample at that place, so two
 /// reads of one place agree.
 pub trait RefView {
@@ -42,26 +55,19 @@ pub trait RefView {
         requires within { column + len ≤ columns_of (size self.now) plane }
         ensures value { result.now ≡ line_part (at self.now plane lines line) column len };
 
-    /// Parts of `count` lines one after another, lent at once: `len` samples of each from `column` on. Or None, of a view
-    /// whose lines don't stand in one slice: then each is lent by [`RefView::line`]. The last part ends within the slice,
-    /// so each does.
+    /// Parts of lines one after another, lent at once. Or None, of a view whose lines don't stand in one slice: then each is
+    /// lent by [`RefView::line`]. The last part ends within the slice, so each does.
     #[inline(always)]
-    fn window(
-        &self,
-        plane: Plane,
-        lines: Lines,
-        line: u32,
-        count: u32,
-        column: u32,
-        len: u32,
-    ) -> Option<Window<'_>>
-        requires some { 1 ≤ count }
-        requires held { (k : ℕ) → k < count → Holds self.now plane lines (line + k) }
-        requires within { column + len ≤ columns_of (size self.now) plane }
-        ensures fits { IfSome result (λ w. (count - 1) * w.stride + len ≤ length w.samples.now) }
-        ensures value { IfSome result (λ w. (k : ℕ) → k < count
-            → take len (drop (k * w.stride) w.samples.now)
-            ≡ line_part (at self.now plane lines (line + k)) column len) }
+    fn window(&self, plane: Plane, lines: Lines, parts: LineParts) -> Option<Window<'_>>
+        requires some { 1 ≤ parts.count }
+        requires held { (k : ℕ) → k < parts.count
+            → Holds self.now plane lines (parts.line + k) }
+        requires within { parts.column + parts.len ≤ columns_of (size self.now) plane }
+        ensures fits { IfSome result (λ w. (parts.count - 1) * w.stride + parts.len
+            ≤ length w.samples.now) }
+        ensures value { IfSome result (λ w. (k : ℕ) → k < parts.count
+            → take parts.len (drop (k * w.stride) w.samples.now)
+            ≡ line_part (at self.now plane lines (parts.line + k)) parts.column parts.len) }
     {
         None
     }

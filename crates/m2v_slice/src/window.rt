@@ -13,7 +13,7 @@ ghost use Rattle.m2v_slice.specs.Stands.{StandsFor, IsHeldLine};
 use crate::book::EncodeBook;
 use crate::cache::EncodeCache;
 use m2v_core::NeedList;
-use m2v_plane::{Dims, Frame, Lines, Plane, RefView, Window};
+use m2v_plane::{Dims, Frame, LineParts, Lines, Plane, RefView, Window};
 use std::marker::Model;
 
 /// Where the lines of a reference stand.
@@ -218,22 +218,22 @@ fn window_before(
     before: &Option<Frame>,
     plane: Plane,
     lines: Lines,
-    line: u32,
-    count: u32,
-    column: u32,
-    len: u32,
+    parts: LineParts,
 ) -> Option<Window<'_>>
-    requires some { 1 ≤ count }
-    requires lines { IfSome before.now
-        (λ f. (k : ℕ) → k < count → line + k < lines_of f.dims plane lines) }
-    requires within { IfSome before.now (λ f. column + len ≤ columns_of f.dims plane) }
-    ensures fits { IfSome result (λ w. (count - 1) * w.stride + len ≤ length w.samples.now) }
-    ensures value { IfSome result (λ w. (k : ℕ) → k < count
-        → take len (drop (k * w.stride) w.samples.now)
-        ≡ line_part (sample_in (or_none before.now) plane lines (line + k)) column len) }
+    requires some { 1 ≤ parts.count }
+    requires lines { IfSome before.now (λ f. (k : ℕ) → k < parts.count
+        → parts.line + k < lines_of f.dims plane lines) }
+    requires within { IfSome before.now (λ f. parts.column + parts.len
+        ≤ columns_of f.dims plane) }
+    ensures fits { IfSome result (λ w. (parts.count - 1) * w.stride + parts.len
+        ≤ length w.samples.now) }
+    ensures value { IfSome result (λ w. (k : ℕ) → k < parts.count
+        → take parts.len (drop (k * w.stride) w.samples.now)
+        ≡ line_part (sample_in (or_none before.now) plane lines (parts.line + k)) parts.column
+        parts.len) }
 {
     match before {
-        Some(frame) => frame.window(plane, lines, line, count, column, len),
+        Some(frame) => frame.window(plane, lines, parts),
         None => None,
     }
 }
@@ -315,27 +315,20 @@ impl<'a> RefView for ReferenceWindow<'a> {
     }
 
     #[inline(always)]
-    fn window(
-        &self,
-        plane: Plane,
-        lines: Lines,
-        line: u32,
-        count: u32,
-        column: u32,
-        len: u32,
-    ) -> Option<Window<'_>> {
+    fn window(&self, plane: Plane, lines: Lines, parts: LineParts) -> Option<Window<'_>> {
         // a frame has at most 72 macroblock rows
         let _size = self.dims();
         match self.stand(lines) {
             Stand::Before => {
                 let before = self.book().before();
-                window_before(before, plane, lines, line, count, column, len)
+                window_before(before, plane, lines, parts)
             }
             Stand::Cached { place, whole } => {
                 let rows = self.cache().kept();
-                let (line, step) = (line_among(whole, lines, line), step_among(whole, lines));
+                let line = line_among(whole, lines, parts.line);
+                let step = step_among(whole, lines);
                 let there = line_kept(place, self.first(), plane, line);
-                Some(rows.window(plane, there, step, count, column, len))
+                Some(rows.window(plane, there, step, parts.count, parts.column, parts.len))
             }
             Stand::Absent => None,
         }

@@ -116,26 +116,14 @@ returns-clause-m c =
     let t : SFits w32 c.column_difference.result = search rules in
     to_z-of_z w32 _ t ∙ (simp to_z-of_z at c.column_difference.ensures.value)
 
-pub returns-clause-a1_within : goal.returns-clause-a1_within
-returns-clause-a1_within c = passed_within 82000000 82000000 _ (omega arith) (omega arith) c.eighth_of.ensures.within
-
-pub returns-clause-a7_within : goal.returns-clause-a7_within
-returns-clause-a7_within c = passed_within 82000000 82000000 _ (omega arith) (omega arith) c.eighth_of-2.ensures.within
-
-pub returns-clause-a5_within : goal.returns-clause-a5_within
-returns-clause-a5_within c = passed_within 82000000 82000000 _ (omega arith) (omega arith) c.eighth_of-3.ensures.within
-
-pub returns-clause-a3_within : goal.returns-clause-a3_within
-returns-clause-a3_within c = passed_within 82000000 82000000 _ (omega arith) (omega arith) c.eighth_of-4.ensures.within
-
-pub returns-clause-e2_within : goal.returns-clause-e2_within
-returns-clause-e2_within c = passed_within 82000000 82000000 _ (omega arith) (omega arith) c.eighth_of-5.ensures.within
-
-pub returns-clause-e6_within : goal.returns-clause-e6_within
-returns-clause-e6_within c = passed_within 82000000 82000000 _ (omega arith) (omega arith) c.eighth_of-6.ensures.within
-
-pub returns-clause-p_within : goal.returns-clause-p_within
-returns-clause-p_within c = passed_within 82000000 82000000 _ (omega arith) (omega arith) c.column_sum.ensures.within
-
-pub returns-clause-m_within : goal.returns-clause-m_within
-returns-clause-m_within c = passed_within 82000000 82000000 _ (omega arith) (omega arith) c.column_difference.ensures.within
+pub returns-clause-terms : goal.returns-clause-terms
+returns-clause-terms c = record {
+  a1 = passed_within 82000000 82000000 _ (omega arith) (omega arith) c.eighth_of.ensures.within;
+  a7 = passed_within 82000000 82000000 _ (omega arith) (omega arith) c.eighth_of-2.ensures.within;
+  a5 = passed_within 82000000 82000000 _ (omega arith) (omega arith) c.eighth_of-3.ensures.within;
+  a3 = passed_within 82000000 82000000 _ (omega arith) (omega arith) c.eighth_of-4.ensures.within;
+  e2 = passed_within 82000000 82000000 _ (omega arith) (omega arith) c.eighth_of-5.ensures.within;
+  e6 = passed_within 82000000 82000000 _ (omega arith) (omega arith) c.eighth_of-6.ensures.within;
+  p = passed_within 82000000 82000000 _ (omega arith) (omega arith) c.column_sum.ensures.within;
+  m = passed_within 82000000 82000000 _ (omega arith) (omega arith) c.column_difference.ensures.within;
+}

@@ -1,4 +1,4 @@
-use Rattle.std.proofs.Common.{◌≡◌, ◌+◌, ◌-◌, ◌*◌, ◌∙◌, arith, ap, sym, subst}
+use Rattle.std.proofs.Common.{◌+◌, ◌-◌, ◌*◌, ◌∙◌, arith, ap, sym, subst}
 use Rattle.std.specs.Prelude.{slice_index}
 use Rattle.m2v_search.specs.declared.spot.Span.{Span}
 use Rattle.m2v_search.specs.Bounds.{AreSumsFor}
