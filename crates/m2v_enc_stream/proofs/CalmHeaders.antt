@@ -105,25 +105,15 @@ calm_by t n small few h =
     let len : length zeros ≤ n = omega (arith, length-replicate (to_edge (32 + length t)) false, few) in
     record { calm = calm_then t zeros 22 n 0 h (calm_any zeros n 0 (omega (arith, len)) (omega (arith, len, small))) }
 
-intra_kind : Calm 12 (bits_of 3 1) 22
+-- the texts of the three types
+kinds : Calm 12 (bits_of 3 1) 22 × Calm 12 (bits_of 3 2) 21 × Calm 12 (bits_of 3 3) 22
 unfolding bits_of
-intra_kind = omega arith
+kinds = (omega arith, omega arith, omega arith)
 
-forward_kind : Calm 12 (bits_of 3 2) 21
+-- what stands at the end of a P and of a B picture's header
+ends : Calm 5 (false ∷ (bits_of 3 7 ++ (false ∷ []))) 7 × Calm 6 (false ∷ (bits_of 3 7 ++ (false ∷ (bits_of 3 7 ++ (false ∷ []))))) 7
 unfolding bits_of
-forward_kind = omega arith
-
-both_kind : Calm 12 (bits_of 3 3) 22
-unfolding bits_of
-both_kind = omega arith
-
-forward_end : Calm 5 (false ∷ (bits_of 3 7 ++ (false ∷ []))) 7
-unfolding bits_of
-forward_end = omega arith
-
-both_end : Calm 6 (false ∷ (bits_of 3 7 ++ (false ∷ (bits_of 3 7 ++ (false ∷ []))))) 7
-unfolding bits_of
-both_end = omega arith
+ends = (omega arith, omega arith)
 
 picture_calm_by : (frame delay kind m left : ℕ) (end : List Bool) → Calm 12 (bits_of 3 kind) (16 + m) → 16 + m ≤ 22 → Calm m end left
     → Calm 22 (bits_of 10 frame ++ (bits_of 3 kind ++ (bits_of 16 delay ++ end))) left
@@ -154,20 +144,20 @@ intra_calm job delay =
     let t = picture_text (picture_of (record job { kind = 1 }) delay) in
     let len = picture_length (record job { kind = 1 }) delay in
     calm_by t 2 (omega arith) (omega (arith, len))
-    (subst (λ (x : List Bool). Calm 22 x 2) (sym (intra_is job delay)) (picture_calm_by job.frame delay 1 6 2 (false ∷ []) intra_kind (omega arith) (omega arith)))
+    (subst (λ (x : List Bool). Calm 22 x 2) (sym (intra_is job delay)) (picture_calm_by job.frame delay 1 6 2 (false ∷ []) kinds.0 (omega arith) (omega arith)))
 
 forward_calm : (job : PictureJob) (delay : ℕ) → PictureCalm job delay 2
 forward_calm job delay =
     let t = picture_text (picture_of (record job { kind = 2 }) delay) in
     calm_end t
-    (subst (λ (x : List Bool). Calm 22 x 7) (sym (forward_is job delay)) (picture_calm_by job.frame delay 2 5 7 (false ∷ (bits_of 3 7 ++ (false ∷ []))) forward_kind (omega arith) forward_end))
+    (subst (λ (x : List Bool). Calm 22 x 7) (sym (forward_is job delay)) (picture_calm_by job.frame delay 2 5 7 (false ∷ (bits_of 3 7 ++ (false ∷ []))) kinds.1 (omega arith) ends.0))
 
 both_calm : (job : PictureJob) (delay : ℕ) → PictureCalm job delay 3
 both_calm job delay =
     let t = picture_text (picture_of (record job { kind = 3 }) delay) in
     calm_end t
     (subst (λ (x : List Bool). Calm 22 x 7) (sym (both_is job delay))
-    (picture_calm_by job.frame delay 3 6 7 (false ∷ (bits_of 3 7 ++ (false ∷ (bits_of 3 7 ++ (false ∷ []))))) both_kind (omega arith) both_end))
+    (picture_calm_by job.frame delay 3 6 7 (false ∷ (bits_of 3 7 ++ (false ∷ (bits_of 3 7 ++ (false ∷ []))))) kinds.2 (omega arith) ends.1))
 
 pub picture_calm : (job : PictureJob) (delay : ℕ) → (1 ≤ job.kind) × (job.kind ≤ 3) → IsCalm (picture_text (picture_of job delay))
 picture_calm job delay kind = by_kind (PictureCalm job delay) (intra_calm job delay) (forward_calm job delay) (both_calm job delay) job.kind kind
@@ -189,17 +179,10 @@ first_calm : Calm 22 (bits_of 4 8) 19
 unfolding bits_of
 first_calm = omega arith
 
-no_codes : Calm 19 (codes 15 15) 21
+-- the f_codes of the three types
+codes_calm : Calm 19 (codes 15 15) 21 × Calm 19 (codes 2 15) 21 × Calm 19 (codes 2 2) 21
 unfolding bits_of
-no_codes = omega arith
-
-forward_codes : Calm 19 (codes 2 15) 21
-unfolding bits_of
-forward_codes = omega arith
-
-both_codes : Calm 19 (codes 2 2) 21
-unfolding bits_of
-both_codes = omega arith
+codes_calm = (omega arith, omega arith, omega arith)
 
 abbrev CodingCalm : Settings → PictureJob → ℕ → Type 0
 CodingCalm s job kind = IsCalm (picture_extension_text (extension_of s (record job { kind = kind })))
@@ -229,5 +212,5 @@ both_codes_is s job = refl
 
 pub coding_calm : (s : Settings) (job : PictureJob) → (1 ≤ job.kind) × (job.kind ≤ 3) → IsCalm (picture_extension_text (extension_of s job))
 coding_calm s job kind =
-    by_kind (CodingCalm s job) (coding_calm_by s job 1 15 15 (no_codes_is s job) no_codes) (coding_calm_by s job 2 2 15 (forward_codes_is s job) forward_codes)
-    (coding_calm_by s job 3 2 2 (both_codes_is s job) both_codes) job.kind kind
+    by_kind (CodingCalm s job) (coding_calm_by s job 1 15 15 (no_codes_is s job) codes_calm.0) (coding_calm_by s job 2 2 15 (forward_codes_is s job) codes_calm.1)
+    (coding_calm_by s job 3 2 2 (both_codes_is s job) codes_calm.2) job.kind kind

@@ -103,7 +103,7 @@ pub record MayFollow (s : Settings) (x : Progress) (g : Group Samples) (ends : B
 abbrev pub group_units_of : Settings → Progress → Group Samples → Bool → Units
 group_units_of s x g ends = pictures_units (book_of s x g) (done_of s x g) (ledger_of s x g) ends (length x.text) (length g.pictures)
 
--- a state behind groups, the last picture of which is complete, with so many anchors
+-- a state behind groups, with so many anchors
 pub record IsBetween (s : Settings) (st : State) : Type 0 where
   pub closed : Bool
   pub anchors : ℕ
@@ -111,11 +111,15 @@ pub record IsBetween (s : Settings) (st : State) : Type 0 where
   pub is : st ≡ state_with s closed anchors None open_one
   pub one : 1 ≤ anchors
   pub most : anchors ≤ 2
-  pub complete : is_complete (Some (sequence_by s)) open_one ≡ true
+
+-- and their last picture is complete
+pub record IsSettled (s : Settings) (st : State) : Type 0 where
+  pub between : IsBetween s st
+  pub complete : is_complete (Some (sequence_by s)) between.open_one ≡ true
 
 -- the state behind what is coded: nothing, or groups
 abbrev pub IsAfter : Settings → Progress → State → Type 0
-IsAfter s x st = ((x.before ≡ None) × (st ≡ at_first)) ⊎ IsBetween s st
+IsAfter s x st = ((x.before ≡ None) × (st ≡ at_first)) ⊎ IsSettled s st
 
 pub start_is : (b : Book) (closed : Bool) (before : ℕ) (open_one : Option Open) → state_with b.settings closed before None open_one ≡ state_before b closed before 0 open_one
 unfolding waiting_behind anchors_behind
@@ -140,34 +144,38 @@ pub record Begins (b : Book) (st : State) : Type 0 where
   pub counted : IsCounted b before
   pub ready : IsReady b before 0 st
 
-begins_at : (b : Book) → IsBook b → (st : State) → ((b.before ≡ None) × (st ≡ at_first)) ⊎ IsBetween b.settings st → Begins b st
+begins_at : (b : Book) → IsBook b → (st : State) → ((b.before ≡ None) × (st ≡ at_first)) ⊎ IsSettled b.settings st → Begins b st
 begins_at b h st (inl x) = record {
   before = 0;
   counted = record { most = omega arith; some = λ e. absurd (true_false (is_some b.before) e (ap is_some x.0)) };
   ready = subst (IsReady b 0 0) (sym x.1) (ready_first b h);
 }
-begins_at b h st (inr x) = record {
-  before = x.anchors;
-  counted = record { most = x.most; some = λ e. x.one };
-  ready = subst (IsReady b x.anchors 0) (sym (x.is ∙ start_is b x.closed x.anchors x.open_one)) (ready_at b x.closed x.anchors 0 x.open_one x.complete);
-}
+begins_at b h st (inr settled) =
+    let x = settled.between in
+    record {
+      before = x.anchors;
+      counted = record { most = x.most; some = λ e. x.one };
+      ready = subst (IsReady b x.anchors 0) (sym (x.is ∙ start_is b x.closed x.anchors x.open_one)) (ready_at b x.closed x.anchors 0 x.open_one settled.complete);
+    }
 
 -- parts are read up to a state between groups
 pub record Between (s : Settings) (st : State) (parts : List Part) (units : Units) : Type 0 where
   pub end : State
   pub chain : Chain st parts units end
-  pub between : IsBetween s end
+  pub between : IsSettled s end
 
-between_by : (b : Book) → IsBook b → (before : ℕ) (st : State) → IsCounted b before → IsBehind b before (length b.pictures) st → IsBetween b.settings st
+between_by : (b : Book) → IsBook b → (before : ℕ) (st : State) → IsCounted b before → IsBehind b before (length b.pictures) st → IsSettled b.settings st
 between_by b h before st c x =
     let ends = anchors_end b h before c in
     record {
-      closed = x.closed;
-      anchors = anchors_behind before b (length b.pictures);
-      open_one = x.open_one;
-      is = x.is ∙ ap (λ (w : Option FirstField). state_with b.settings x.closed (anchors_behind before b (length b.pictures)) w x.open_one) (none_behind b h);
-      one = ends.0;
-      most = ends.1;
+      between = record {
+        closed = x.closed;
+        anchors = anchors_behind before b (length b.pictures);
+        open_one = x.open_one;
+        is = x.is ∙ ap (λ (w : Option FirstField). state_with b.settings x.closed (anchors_behind before b (length b.pictures)) w x.open_one) (none_behind b h);
+        one = ends.0;
+        most = ends.1;
+      };
       complete = x.complete;
     }
 

@@ -21,7 +21,7 @@ use Rattle.m2v_enc_stream.specs.States.{state_with}
 use Rattle.m2v_enc_stream.proofs.Zeros.{padded_cuts}
 use Rattle.m2v_enc_stream.proofs.SliceUnits.{Spelled}
 use Rattle.m2v_enc_stream.proofs.Follows.{stream_follows}
-use Rattle.m2v_enc_stream.proofs.TreeGroups.{IsBetween, Between, AllFollow, groups_units, groups_read, groups_add}
+use Rattle.m2v_enc_stream.proofs.TreeGroups.{IsSettled, Between, AllFollow, groups_units, groups_read, groups_add}
 
 -- ---- the state behind parts
 
@@ -45,19 +45,19 @@ state_one st p = refl
 abbrev ended_tree : State → List Part → Sofar
 ended_tree st parts = record { state = after st ending; parts = parts ++ ending ∷ [] }
 
-ends_between : (s : Settings) (st : State) (parts : List Part) → IsBetween s st → Rounds unit_round (record { state = st; parts = parts }) (ended_tree st parts) (end_bytes ∷ []) []
+ends_between : (s : Settings) (st : State) (parts : List Part) → IsSettled s st → Rounds unit_round (record { state = st; parts = parts }) (ended_tree st parts) (end_bytes ∷ []) []
 ends_between s st parts x =
-    subst (λ (t : State). Rounds unit_round (record { state = t; parts = parts }) (ended_tree t parts) (end_bytes ∷ []) []) (sym x.is)
-    (end_stands (state_with s x.closed x.anchors None x.open_one) parts refl x.complete refl)
+    subst (λ (t : State). Rounds unit_round (record { state = t; parts = parts }) (ended_tree t parts) (end_bytes ∷ []) []) (sym x.between.is)
+    (end_stands (state_with s x.between.closed x.between.anchors None x.between.open_one) parts refl x.complete refl)
 
 -- behind the end no second field is due
-none_due : (s : Settings) (st : State) → IsBetween s st → none_waits (after st ending).waiting ≡ true
+none_due : (s : Settings) (st : State) → IsSettled s st → none_waits (after st ending).waiting ≡ true
 unfolding after
-none_due s st x = ap (λ (t : State). none_waits t.waiting) x.is
+none_due s st x = ap (λ (t : State). none_waits t.waiting) x.between.is
 
 -- ---- the stream
 
-stream_by : (s : Settings) (st : State) (parts : List Part) (us : Units) → Chain at_first parts us st → IsBetween s st → stream_at.Stands (ended_tree st parts) (us ++ end_bytes ∷ []) []
+stream_by : (s : Settings) (st : State) (parts : List Part) (us : Units) → Chain at_first parts us st → IsSettled s st → stream_at.Stands (ended_tree st parts) (us ++ end_bytes ∷ []) []
 stream_by s st parts us c x =
     stream_of (us ++ end_bytes ∷ []) [] (ended_tree st parts)
     (rounds_of c [] (end_bytes ∷ []) [] (ended_tree st parts) (ends_between s st parts x))

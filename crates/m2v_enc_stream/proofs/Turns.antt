@@ -161,35 +161,33 @@ count_more x xs = sum_by-cons (λ (j : PictureJob). cond (counts j) 1 0) x xs
 counted : (x : PictureJob) → x.kind ≡ 1 → nat_eq x.structure 1 ≡ false → cond {A = ℕ} (counts x) 1 0 ≡ 1
 counted x e f = rw (e, f) refl
 
--- before a picture that isn't I the group has an anchor
-frames_before : (heads : List PictureJob) (p : ℕ) → (get_or (flat_map (fields_of Frames) heads) 0 no_job).kind ≡ 1
-    → p < length (flat_map (fields_of Frames) heads) → ((get_or (flat_map (fields_of Frames) heads) p no_job).kind ≡ 1 → ⊥)
-    → 1 ≤ anchors_without 1 (take p (flat_map (fields_of Frames) heads))
+-- the pictures of an I frame have an anchor
+frame_counts : (h : PictureJob) (xs : List PictureJob) → h.kind ≡ 1 → 1 ≤ anchors_without 1 (record h { structure = 3 } ∷ xs)
+frame_counts h xs e = let x : PictureJob = record h { structure = 3 } in omega (arith, count_more x xs, counted x e refl)
+
+fields_count : (h : PictureJob) (xs : List PictureJob) → h.kind ≡ 1 → 1 ≤ anchors_without 1 (record h { structure = 1 } ∷ record h { structure = 2 } ∷ xs)
+fields_count h xs e =
+    let x : PictureJob = record h { structure = 1 } in
+    let y : PictureJob = record h { structure = 2 } in
+    omega (arith, count_more x (y ∷ xs), count_more y xs, counted y e refl)
+
+-- one anchor stands before a picture that isn't I
+abbrev OneBefore : List PictureJob → ℕ → Type 0
+OneBefore jobs p =
+    (get_or jobs 0 no_job).kind ≡ 1 → p < length jobs → ((get_or jobs p no_job).kind ≡ 1 → ⊥) → 1 ≤ anchors_without 1 (take p jobs)
+
+frames_before : (heads : List PictureJob) (p : ℕ) → OneBefore (flat_map (fields_of Frames) heads) p
 unfolding structures
 frames_before [] p e lt n = absurd (omega (arith, lt))
 frames_before (h ∷ more) zero e lt n = absurd (n e)
-frames_before (h ∷ more) (suc p) e lt n =
-    let x : PictureJob = record h { structure = 3 } in
-    let xs = take p (flat_map (fields_of Frames) more) in
-    omega (arith, count_more x xs, counted x e refl)
+frames_before (h ∷ more) (suc p) e lt n = frame_counts h (take p (flat_map (fields_of Frames) more)) e
 
-fields_before : (heads : List PictureJob) (p : ℕ) → (get_or (flat_map (fields_of Fields) heads) 0 no_job).kind ≡ 1
-    → p < length (flat_map (fields_of Fields) heads) → ((get_or (flat_map (fields_of Fields) heads) p no_job).kind ≡ 1 → ⊥)
-    → 1 ≤ anchors_without 1 (take p (flat_map (fields_of Fields) heads))
+fields_before : (heads : List PictureJob) (p : ℕ) → OneBefore (flat_map (fields_of Fields) heads) p
 unfolding structures
 fields_before [] p e lt n = absurd (omega (arith, lt))
 fields_before (h ∷ more) zero e lt n = absurd (n e)
 fields_before (h ∷ more) (suc zero) e lt n = absurd (n e)
-fields_before (h ∷ more) (suc (suc p)) e lt n =
-    let x : PictureJob = record h { structure = 1 } in
-    let y : PictureJob = record h { structure = 2 } in
-    let xs = take p (flat_map (fields_of Fields) more) in
-    omega (arith, count_more x (y ∷ xs), count_more y xs, counted y e refl)
-
--- one anchor stands before a picture
-abbrev OneBefore : List PictureJob → ℕ → Type 0
-OneBefore jobs p =
-    (get_or jobs 0 no_job).kind ≡ 1 → p < length jobs → ((get_or jobs p no_job).kind ≡ 1 → ⊥) → 1 ≤ anchors_without 1 (take p jobs)
+fields_before (h ∷ more) (suc (suc p)) e lt n = fields_count h (take p (flat_map (fields_of Fields) more)) e
 
 scan_before : (scan : Scan) (heads : List PictureJob) (p : ℕ) → OneBefore (flat_map (fields_of scan) heads) p
 scan_before Progressive heads p = subst (λ (js : List PictureJob). OneBefore js p) (sym (same_scan heads)) (frames_before heads p)
@@ -230,27 +228,18 @@ anchors_before_b b h before p c lt e =
     ]
 
 -- a whole group has an anchor
-frames_some : (heads : List PictureJob) → (get_or (flat_map (fields_of Frames) heads) 0 no_job).kind ≡ 1 → 0 < length (flat_map (fields_of Frames) heads)
-    → 1 ≤ anchors_without 1 (flat_map (fields_of Frames) heads)
-unfolding structures
-frames_some [] e lt = absurd (omega (arith, lt))
-frames_some (h ∷ more) e lt =
-    let x : PictureJob = record h { structure = 3 } in
-    let xs = flat_map (fields_of Frames) more in
-    omega (arith, count_more x xs, counted x e refl)
-
-fields_some : (heads : List PictureJob) → (get_or (flat_map (fields_of Fields) heads) 0 no_job).kind ≡ 1 → 0 < length (flat_map (fields_of Fields) heads)
-    → 1 ≤ anchors_without 1 (flat_map (fields_of Fields) heads)
-unfolding structures
-fields_some [] e lt = absurd (omega (arith, lt))
-fields_some (h ∷ more) e lt =
-    let x : PictureJob = record h { structure = 1 } in
-    let y : PictureJob = record h { structure = 2 } in
-    let xs = flat_map (fields_of Fields) more in
-    omega (arith, count_more x (y ∷ xs), count_more y xs, counted y e refl)
-
 abbrev HasSome : List PictureJob → Type 0
 HasSome jobs = (get_or jobs 0 no_job).kind ≡ 1 → 0 < length jobs → 1 ≤ anchors_without 1 jobs
+
+frames_some : (heads : List PictureJob) → HasSome (flat_map (fields_of Frames) heads)
+unfolding structures
+frames_some [] e lt = absurd (omega (arith, lt))
+frames_some (h ∷ more) e lt = frame_counts h (flat_map (fields_of Frames) more) e
+
+fields_some : (heads : List PictureJob) → HasSome (flat_map (fields_of Fields) heads)
+unfolding structures
+fields_some [] e lt = absurd (omega (arith, lt))
+fields_some (h ∷ more) e lt = fields_count h (flat_map (fields_of Fields) more) e
 
 scan_some : (scan : Scan) (heads : List PictureJob) → HasSome (flat_map (fields_of scan) heads)
 scan_some Progressive heads = subst HasSome (sym (same_scan heads)) (frames_some heads)

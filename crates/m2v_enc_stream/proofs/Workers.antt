@@ -22,7 +22,7 @@ use Rattle.m2v_plane.specs.declared.planes.Lines.{Lines}
 use Rattle.m2v_plane.specs.declared.planes.Lines.TheVariants.{Top, Bottom}
 use Rattle.m2v_slice.specs.m2v_macroblock.Predictions.{View}
 use Rattle.m2v_slice.specs.Books.{anchors_before, job_at, has_lines, picture_sample, reference, reference_picture, nth, forward_number, rows, Book, CodedPicture, coded, next_picture, slice_activities, picture_activities, task_of, ledger_for, ledger_with, ledger_behind}
-use Rattle.m2v_enc_stream.specs.Streams.{Progress, frame_or, anchor_frame, picture_with, frame_by, pictures_text, picture_text, frame_of, group_coded, groups_coded, groups_from, coded_all, Coded, Recon, at_start, waiting, book_of, zeros_sum}
+use Rattle.m2v_enc_stream.specs.Streams.{Progress, frame_or, anchor_frame, picture_with, frame_by, pictures_text, picture_text, frame_of, group_coded, groups_coded, groups_from, coded_all, Coded, Recon, at_start, waiting, book_of, progress_behind, zeros_sum}
 
 module _ (w : ℕ) where
   abbrev by : Settings → Settings
@@ -190,39 +190,24 @@ module _ (w : ℕ) where
       (ap₂ (begun (entries x.ledger) kinds) (times s g.before g.pictures) (sources s g.frames g.pictures)
       ∙ openings x.ledger kinds (intervals_of s g.before g.pictures) (picture_activities s g.frames g.pictures))
 
-  -- what a group leaves, by its book
-  abbrev behind : Progress → Group Samples → Bool → Book → Progress
-  behind x g ends b =
-      let n = length g.pictures in
-      let done = coded b n in
-      let l = ledger_behind b done in
-      record {
-        text = x.text ++ pictures_text b done l ends (length x.text) n;
-        ledger = l;
-        before = frame_or x.before b done (anchor_frame None g.pictures);
-        shown = x.shown ++ map (λ k. crop (frame_of b done k)) (range_with_len 0 (length g.frames));
-        pictures = x.pictures + n;
-        zeros = x.zeros + zeros_sum l ends n;
-      }
-
   kept : (before : Option Samples) (b : Book) (done : List CodedPicture) (k : Option ℕ) → frame_or before (book b) done k ≡ frame_or before b done k
   unfolding frame_or
   kept before b done None = refl
   kept before b done (Some k) = ap Some (frames b done k)
 
-  groups_by_book : (x : Progress) (g : Group Samples) (ends : Bool) (b : Book) → behind (progress x) g ends (book b) ≡ progress (behind x g ends b)
+  groups_by_book : (x : Progress) (g : Group Samples) (ends : Bool) (b : Book) → progress_behind (progress x) g ends (book b) ≡ progress (progress_behind x g ends b)
   groups_by_book x g ends b =
       let n = length g.pictures in
       let done = coded b n in
       let l = ledger_behind b done in
       let at = anchor_frame None g.pictures in
       rw (all_pictures b n, sights b done done (length done), all_texts b done l ends (length x.text) n, zeros l ends n, kept x.before b done at)
-      (ap (λ (cut : ℕ → List ℕ). record (progress (behind x g ends b)) { shown = x.shown ++ map cut (range_with_len 0 (length g.frames)) })
+      (ap (λ (cut : ℕ → List ℕ). record (progress (progress_behind x g ends b)) { shown = x.shown ++ map cut (range_with_len 0 (length g.frames)) })
       (fun_ext (λ k. ap crop (frames b done k))))
 
   groups : (s : Settings) (x : Progress) (g : Group Samples) (ends : Bool) → group_coded (by s) (progress x) g ends ≡ progress (group_coded s x g ends)
   unfolding group_coded
-  groups s x g ends = ap (behind (progress x) g ends) (books s x g) ∙ groups_by_book x g ends (book_of s x g)
+  groups s x g ends = ap (progress_behind (progress x) g ends) (books s x g) ∙ groups_by_book x g ends (book_of s x g)
 
   all_groups : (s : Settings) (x : Progress) (gs : List (Group Samples)) → groups_coded (by s) (progress x) gs ≡ progress (groups_coded s x gs)
   unfolding groups_coded

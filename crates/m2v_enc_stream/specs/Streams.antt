@@ -117,10 +117,9 @@ unfoldable pub zeros_sum : Entries → Bool → ℕ → ℕ
 zeros_sum l ends zero = 0
 zeros_sum l ends (suc n) = zeros_sum l ends n + zeros_of l ends n
 
--- a group is coded; `ends` tells that it is the last one
-unfoldable pub group_coded : Settings → Progress → Group Samples → Bool → Progress
-group_coded s x g ends =
-    let b = book_of s x g in
+-- what stands behind a group of this book; `ends` tells that it is the last one
+abbrev pub progress_behind : Progress → Group Samples → Bool → Book → Progress
+progress_behind x g ends b =
     let n = length g.pictures in
     let done = coded b n in
     let l = ledger_behind b done in
@@ -132,6 +131,10 @@ group_coded s x g ends =
       pictures = x.pictures + n;
       zeros = x.zeros + zeros_sum l ends n;
     }
+
+-- a group is coded
+unfoldable pub group_coded : Settings → Progress → Group Samples → Bool → Progress
+group_coded s x g ends = progress_behind x g ends (book_of s x g)
 
 -- groups, none of which is the last of the stream
 unfoldable pub groups_begun : Settings → Progress → List (Group Samples) → Progress

@@ -21,7 +21,7 @@ use Rattle.m2v_slice.specs.Books.{Book, job_at, no_job, has_lines}
 use Rattle.m2v_slice.specs.Conditions.{IsBook}
 use Rattle.m2v_slice.proofs.Groups.{passes_of}
 use Rattle.m2v_law_shown.specs.m2v_enc_stream.Streams.{picture_with}
-use Rattle.m2v_law_shown.proofs.Only.{Ascends, ascends}
+use Rattle.m2v_law_shown.proofs.Only.{Ascends, lines_by, ascends}
 
 -- ---- numbers in order
 
@@ -84,10 +84,6 @@ there_behind front jobs back k lines t =
     placed (f ∷ front) jobs back i lt =
         let e : length (f ∷ front) + i ≡ suc (length front + i) = omega arith in
         ap (λ (n : ℕ). get_or (f ∷ (front ++ (jobs ++ back))) n no_job) e ∙ placed front jobs back i lt
-
--- top lines, or bottom lines
-abbrev pub lines_by : Bool → Lines
-lines_by top = cond top Top Bottom
 
 own_there : (scan : Scan) (f : ℕ → PictureJob) (k : ℕ) (top : Bool) → ((n : ℕ) → (f n).frame ≡ k) → ((n : ℕ) → (f n).structure ≡ n) → IsThere (map f (structures scan)) k (lines_by top)
 unfolding structures has_lines

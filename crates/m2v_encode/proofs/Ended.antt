@@ -2,13 +2,13 @@
 use Rattle.std.proofs.Common.{◌≡◌, ℕ, ◌*◌, ◌/◌, ◌<◌, ◌≤◌, ◌⊎◌, inl, inr, Bool, true, false, List, [], ◌∷◌, ◌++◌, length, Option, Result, Ok, Err, refl, sym, subst, ap, ◌∙◌, arith, append_assoc}
 use Rattle.std.specs.Prelude.{OnOk, IfOk, IfErr, nat_lt, ◌&&◌, ◌||◌}
 use Rattle.std.proofs.lemmas.Bool.{cases_lt, lt-ltb, and_from}
-use Rattle.std.proofs.lemmas.List.{length-append, append-nil}
+use Rattle.std.proofs.lemmas.List.{length-append}
 use Rattle.std.proofs.lemmas.List.Elements.{All-nil}
 use Rattle.m2v_bits.specs.Bits.{packed, start_code, IsEdge}
 use Rattle.m2v_bits.proofs.Units.{packed-append, start_length}
 use Rattle.m2v_port.specs.Ends.{Change, change}
 use Rattle.m2v_port.specs.Port.{Moves, IsAtEnd, Grows, GrowsByPrefix}
-use Rattle.m2v_port.proofs.Runs.{rose_since, moves_on, moves_nothing, grows_on, grows_by_nothing, grows_by_all, prefix_on}
+use Rattle.m2v_port.proofs.Runs.{rose_since, moves_on, moves_nothing, then_nothing, grows_on, grows_by_nothing, grows_by_all, prefix_on}
 use Rattle.m2v_plane.specs.Raw.{frame_bytes, raw}
 use Rattle.m2v_plane.specs.Samples.{Samples}
 use Rattle.m2v_set.specs.declared.settings.Settings.{Settings}
@@ -29,14 +29,11 @@ use Rattle.m2v_encode.specs.Groups.{group_text, group_shown}
 use Rattle.m2v_encode.specs.Steps.{ReadStops, book_by, EndCoded, EndCut, EndStops, SoFar}
 use Rattle.m2v_encode.proofs.Readings.{raw_both}
 use Rattle.m2v_encode.proofs.Fronts.{all_is}
-use Rattle.m2v_encode.proofs.Progress.{edge_by, no_part, progress_by, coded_is, begun_here, cut_here, front_begun, lost_here, prefix_by}
+use Rattle.m2v_encode.proofs.Progress.{edge_by, progress_by, coded_is, begun_here, cut_here, front_begun, lost_here, prefix_by}
 
 raw_none : (frames : List (List ℕ)) → length frames ≡ 0 → raw frames ≡ []
 raw_none [] none = refl
 raw_none (f ∷ frames) none = absurd (omega (arith, none))
-
-then_nothing : (l0 l1 l2 : Option (List ℕ)) (bytes : List ℕ) → Moves l0 bytes l1 → Moves l1 [] l2 → Moves l0 bytes l2
-then_nothing l0 l1 l2 bytes first second = subst (λ (b : List ℕ). Moves l0 b l2) (append-nil bytes) (moves_on first second)
 
 -- the stream whose last group is this one
 coded_by : (s : Settings) (frames : List (List ℕ)) (x : Progress) (b : Book) (ends : Bool) (at : ℕ) → coded_all s frames ≡ progress_by x b ends at → IsEdge x.text
@@ -45,7 +42,6 @@ coded_by s frames x b ends at e edge =
     let g = group_text b ends at in
     ap (λ (y : Progress). packed (y.text ++ start_code 0xB7)) e ∙ ap packed (append_assoc x.text g (start_code 0xB7)) ∙ packed-append x.text (g ++ start_code 0xB7) edge
 
--- The input's states are i0, i1 and so on, the output's o0, o1, and recon's r0, r1.
 module _ {S K N : Type 0} (left : S → Option (List ℕ)) (input_faults : S → ℕ) (held : K → Option (List ℕ)) (output_faults : K → ℕ)
     (kept : N → Option (List ℕ)) (recon_faults : N → ℕ) where
   abbrev input : S → S → Change
@@ -90,7 +86,7 @@ module _ {S K N : Type 0} (left : S → Option (List ℕ)) (input_faults : S →
         some = omega (arith, some, far.handed.pushed);
         most = omega (arith, few, far.handed.pushed);
         whole = far.whole;
-        moved = then_nothing (left i0) (left i1) (left i2) (raw far.frames) far.moved moved;
+        moved = then_nothing far.moved moved;
         end = end;
         grown = subst (λ (z : List ℕ). Grows (held o0) z (held o2)) (sym whole) (grows_on far.grown coded.grown);
         shown = subst (λ (z : List ℕ). Grows (kept r0) z (kept r2)) (sym shown) (grows_on far.shown coded.shown);
@@ -120,7 +116,7 @@ module _ {S K N : Type 0} (left : S → Option (List ℕ)) (input_faults : S →
         most = omega (arith, few, far.handed.pushed);
         whole = far.whole;
         less = size;
-        moved = no_part (left i0) (left i2) (raw far.frames) (then_nothing (left i0) (left i1) (left i2) (raw far.frames) far.moved moved);
+        moved = moves_on far.moved moved;
         grown = subst (λ (z : List ℕ). GrowsByPrefix (held o0) z (held o2)) (sym whole) (prefix_on far.grown cut.grown);
         shown = subst (λ (z : List ℕ). GrowsByPrefix (kept r0) z (kept r2)) (sym shown) (prefix_on far.shown cut.shown);
         unwritten = λ none. absurd (omega (arith, none, far.handed.pushed, some));
@@ -160,7 +156,7 @@ module _ {S K N : Type 0} (left : S → Option (List ℕ)) (input_faults : S →
       let none = no_frames s c q i0 i1 o0 o1 r0 r1 far sound h.0 in
       let same = far.unwritten none in
       record {
-        moved = then_nothing (left i0) (left i1) (left i2) [] (subst (λ (b : List ℕ). Moves (left i0) b (left i1)) (raw_none far.frames none) far.moved) moved;
+        moved = then_nothing (subst (λ (b : List ℕ). Moves (left i0) b (left i1)) (raw_none far.frames none) far.moved) moved;
         end = end;
         same = (h.1.0 ∙ same.0, h.1.1 ∙ same.1);
       }
@@ -169,7 +165,7 @@ module _ {S K N : Type 0} (left : S → Option (List ℕ)) (input_faults : S →
       end_cut s c q i0 i1 i2 o0 o1 o2 r0 r1 r2 passes rest ending h.0 (due_frames s c q i0 i1 o0 o1 r0 r1 far ending h.0) few size far moved h.1
   end_stopped s c q i0 i1 i2 o0 o1 o2 r0 r1 r2 Memory passes rest sound ending few size fo fr far moved end (inr h) =
       cut_here left input_faults held output_faults kept recon_faults s far.frames [] (groups_begun s (at_start s) far.groups) i0 i2 o0 o2 r0 r2 (omega (arith, few, far.handed.pushed)) far.whole size
-      (no_part (left i0) (left i2) (raw far.frames) (then_nothing (left i0) (left i1) (left i2) (raw far.frames) far.moved moved))
+      (moves_on far.moved moved)
       (front_begun s far.frames far.groups q passes far.handed sound)
       (subst (λ (t : Option (List ℕ)). GrowsByPrefix (held o0) (packed (groups_begun s (at_start s) far.groups).text) t) (sym h.1.0) (grows_by_all far.grown))
       (subst (λ (t : Option (List ℕ)). GrowsByPrefix (kept r0) (raw (groups_begun s (at_start s) far.groups).shown) t) (sym h.1.1.1) (grows_by_all far.shown))

@@ -1,7 +1,7 @@
 -- Frame after frame: what stands after one more, and where coding stops.
 use Rattle.std.proofs.Common.{◌≡◌, ℕ, ◌+◌, ◌*◌, ◌<◌, ◌≤◌, ◌⊎◌, inl, inr, Bool, true, false, List, [], ◌∷◌, ◌++◌, length, map, Option, None, refl, sym, subst, ap, ◌∙◌, arith, append_assoc}
 use Rattle.std.proofs.lemmas.Bool.{cases_lt}
-use Rattle.std.proofs.lemmas.List.{length-append, append-nil}
+use Rattle.std.proofs.lemmas.List.{length-append}
 use Rattle.std.proofs.lemmas.List.Elements.{All-nil}
 use Rattle.m2v_bits.specs.Bits.{packed, number, start_code, IsEdge}
 use Rattle.m2v_bits.proofs.Units.{packed-append}
@@ -51,11 +51,6 @@ edge_by t bytes is = omega (arith, is)
 pub prefix_by : (h0 h1 : Option (List ℕ)) (part all rest : List ℕ) → all ≡ part ++ rest → GrowsByPrefix h0 part h1 → GrowsByPrefix h0 all h1
 prefix_by h0 h1 part all rest is grown = subst (λ (b : List ℕ). GrowsByPrefix h0 b h1) (sym is) (prefix_of_more grown rest)
 
--- ---- frames
-
-pub no_part : (l0 l1 : Option (List ℕ)) (bytes : List ℕ) → Moves l0 bytes l1 → Moves l0 (bytes ++ []) l1
-no_part l0 l1 bytes moved = subst (λ (b : List ℕ). Moves l0 b l1) (sym (append-nil bytes)) moved
-
 -- ---- one group more
 
 -- behind a group that begins at a bit of the stream
@@ -97,7 +92,6 @@ front_begun s frames groups q passes h sound = elim (cases_lt 0 (length q.frames
     front_empty s [] (g ∷ groups) q h none = absurd (omega (arith, h.count))
     front_empty s (f ∷ frames) groups q h none = absurd (omega (arith, none))
 
--- The input's states are i0, i1 and so on, the output's o0, o1, and recon's r0, r1.
 module _ {S K N : Type 0} (left : S → Option (List ℕ)) (input_faults : S → ℕ) (held : K → Option (List ℕ)) (output_faults : K → ℕ)
     (kept : N → Option (List ℕ)) (recon_faults : N → ℕ) where
   abbrev input : S → S → Change
@@ -272,7 +266,7 @@ module _ {S K N : Type 0} (left : S → Option (List ℕ)) (input_faults : S →
       let more = handed_more s far.frames (f ∷ []) far.groups q (followed q (pad (dims_of s) f ∷ []) false) far.handed refl in
       let long = length-append far.frames (f ∷ []) in
       cut_here s (far.frames ++ f ∷ []) [] (groups_begun s (at_start s) far.groups) i0 i2 o0 o1 r0 r1 (omega (arith, few, far.handed.pushed, long)) (whole_all s far.frames (f ∷ []) far.whole (whole_one s f h.whole)) some
-      (no_part (left i0) (left i2) (raw (far.frames ++ f ∷ [])) (moved_all (left i0) (left i1) (left i2) far.frames (f ∷ []) far.moved (subst (λ (b : List ℕ). Moves (left i1) b (left i2)) (sym (raw_one f)) h.moved)))
+      (moves_on (moved_all (left i0) (left i1) (left i2) far.frames (f ∷ []) far.moved (subst (λ (b : List ℕ). Moves (left i1) b (left i2)) (sym (raw_one f)) h.moved)) (moves_nothing (left i2)))
       (front_is s (far.frames ++ f ∷ []) far.groups (followed q (pad (dims_of s) f ∷ []) false) passes more (omega (arith, length-append q.frames (pad (dims_of s) f ∷ []))))
       (grows_by_all far.grown) (grows_by_all far.shown) (λ none. absurd (omega (arith, none, long)))
 

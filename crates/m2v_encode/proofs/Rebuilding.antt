@@ -27,6 +27,7 @@ use Rattle.m2v_encode.specs.Rebuilt.{rows_in, with_rows, rebuilt_by}
 use Rattle.m2v_encode.proofs.Covering.{covered}
 use Rattle.m2v_law_shown.proofs.Reading.{plane_same}
 use Rattle.m2v_law_shown.proofs.Frames.{even_line, odd_line}
+use Rattle.m2v_law_shown.proofs.Only.{lines_by}
 
 -- ---- frames by their samples
 
@@ -233,13 +234,11 @@ miss b k n plane lines line column f frame has among before =
 abbrev even : ℕ → Bool
 even line = nat_eq (line % 2) 0
 
-before_even : (b : Book) (k n : ℕ) (plane : Plane) (line column : ℕ) → even line ≡ true
-    → so_far b k n plane line column ≡ sample_from b (picture_with b k Top n) plane Top (line / 2) column
-before_even b k n plane line column e = cond-true (even line) _ _ e
-
-before_odd : (b : Book) (k n : ℕ) (plane : Plane) (line column : ℕ) → even line ≡ false
-    → so_far b k n plane line column ≡ sample_from b (picture_with b k Bottom n) plane Bottom (line / 2) column
-before_odd b k n plane line column e = cond-false (even line) _ _ e
+-- a line by its parity
+by_parity : (b : Book) (k n : ℕ) (plane : Plane) (line column : ℕ) (top : Bool) → even line ≡ top
+    → so_far b k n plane line column ≡ sample_from b (picture_with b k (lines_by top) n) plane (lines_by top) (line / 2) column
+by_parity b k n plane line column true e = cond-true (even line) _ _ e
+by_parity b k n plane line column false e = cond-false (even line) _ _ e
 
 odd_among : (line : ℕ) → even line ≡ false → nat_eq (line % 2) 1 ≡ true
 odd_among line e = eq-eqb (line % 2) 1 (odd_line line e).1
@@ -247,19 +246,31 @@ odd_among line e = eq-eqb (line % 2) 1 (odd_line line e).1
 even_among : (line : ℕ) → even line ≡ true → nat_eq (line % 2) 1 ≡ false
 even_among line e = ne_eqb (line % 2) 1 (λ f. let g = eqb-true (line % 2) 0 e in omega (arith, f, g))
 
+-- of a picture of this structure, which has the line
+has_line : (b : Book) (k n : ℕ) (plane : Plane) (line column s : ℕ) (top : Bool) → nat_eq (job_at b n).frame k ≡ true → (job_at b n).structure ≡ s → even line ≡ top
+    → has_lines s (lines_by top) ≡ true → is_among (own_lines s) line ≡ true → line_in s (lines_by top) (line / 2) ≡ number_among (own_lines s) line
+    → with_picture b n (so_far b k n) plane line column ≡ so_far b k (suc n) plane line column
+has_line b k n plane line column s top frame e parity has among place =
+    hit b k n plane (lines_by top) line column (so_far b k n) frame (ap (λ (x : ℕ). has_lines x (lines_by top)) e ∙ has) (ap (λ (x : ℕ). is_among (own_lines x) line) e ∙ among)
+    (ap (λ (x : ℕ). line_in x (lines_by top) (line / 2)) e ∙ place ∙ sym (ap (λ (x : ℕ). number_among (own_lines x) line) e))
+    ∙ sym (by_parity b k (suc n) plane line column top parity)
+
+-- which doesn't have it
+lacks_line : (b : Book) (k n : ℕ) (plane : Plane) (line column s : ℕ) (top : Bool) → nat_eq (job_at b n).frame k ≡ true → (job_at b n).structure ≡ s → even line ≡ top
+    → has_lines s (lines_by top) ≡ false → is_among (own_lines s) line ≡ false
+    → with_picture b n (so_far b k n) plane line column ≡ so_far b k (suc n) plane line column
+lacks_line b k n plane line column s top frame e parity has among =
+    miss b k n plane (lines_by top) line column (so_far b k n) frame (ap (λ (x : ℕ). has_lines x (lines_by top)) e ∙ has) (ap (λ (x : ℕ). is_among (own_lines x) line) e ∙ among)
+    (by_parity b k n plane line column top parity)
+    ∙ sym (by_parity b k (suc n) plane line column top parity)
+
 -- a frame picture
 of_frame : (b : Book) (k n : ℕ) (plane : Plane) (line column : ℕ) → nat_eq (job_at b n).frame k ≡ true → (job_at b n).structure ≡ 3
     → with_picture b n (so_far b k n) plane line column ≡ so_far b k (suc n) plane line column
 unfolding has_lines
 of_frame b k n plane line column frame e = elim (cases_Bool (even line)) [
-  | inl yes_even ↦
-      hit b k n plane Top line column (so_far b k n) frame (ap (λ (s : ℕ). has_lines s Top) e) (ap (λ (s : ℕ). is_among (own_lines s) line) e)
-      (ap (λ (s : ℕ). line_in s Top (line / 2)) e ∙ even_line line yes_even ∙ sym (ap (λ (s : ℕ). number_among (own_lines s) line) e))
-      ∙ sym (before_even b k (suc n) plane line column yes_even)
-  | inr not_even ↦
-      hit b k n plane Bottom line column (so_far b k n) frame (ap (λ (s : ℕ). has_lines s Bottom) e) (ap (λ (s : ℕ). is_among (own_lines s) line) e)
-      (ap (λ (s : ℕ). line_in s Bottom (line / 2)) e ∙ (odd_line line not_even).0 ∙ sym (ap (λ (s : ℕ). number_among (own_lines s) line) e))
-      ∙ sym (before_odd b k (suc n) plane line column not_even)
+  | inl yes_even ↦ has_line b k n plane line column 3 true frame e yes_even refl refl (even_line line yes_even)
+  | inr not_even ↦ has_line b k n plane line column 3 false frame e not_even refl refl (odd_line line not_even).0
 ]
 
 -- a top field
@@ -267,14 +278,8 @@ of_top : (b : Book) (k n : ℕ) (plane : Plane) (line column : ℕ) → nat_eq (
     → with_picture b n (so_far b k n) plane line column ≡ so_far b k (suc n) plane line column
 unfolding has_lines
 of_top b k n plane line column frame e = elim (cases_Bool (even line)) [
-  | inl yes_even ↦
-      hit b k n plane Top line column (so_far b k n) frame (ap (λ (s : ℕ). has_lines s Top) e) (ap (λ (s : ℕ). is_among (own_lines s) line) e ∙ yes_even)
-      (ap (λ (s : ℕ). line_in s Top (line / 2)) e ∙ sym (ap (λ (s : ℕ). number_among (own_lines s) line) e))
-      ∙ sym (before_even b k (suc n) plane line column yes_even)
-  | inr not_even ↦
-      miss b k n plane Bottom line column (so_far b k n) frame (ap (λ (s : ℕ). has_lines s Bottom) e) (ap (λ (s : ℕ). is_among (own_lines s) line) e ∙ not_even)
-      (before_odd b k n plane line column not_even)
-      ∙ sym (before_odd b k (suc n) plane line column not_even)
+  | inl yes_even ↦ has_line b k n plane line column 1 true frame e yes_even refl yes_even refl
+  | inr not_even ↦ lacks_line b k n plane line column 1 false frame e not_even refl not_even
 ]
 
 -- a bottom field
@@ -282,14 +287,8 @@ of_bottom : (b : Book) (k n : ℕ) (plane : Plane) (line column : ℕ) → nat_e
     → with_picture b n (so_far b k n) plane line column ≡ so_far b k (suc n) plane line column
 unfolding has_lines
 of_bottom b k n plane line column frame e = elim (cases_Bool (even line)) [
-  | inl yes_even ↦
-      miss b k n plane Top line column (so_far b k n) frame (ap (λ (s : ℕ). has_lines s Top) e) (ap (λ (s : ℕ). is_among (own_lines s) line) e ∙ even_among line yes_even)
-      (before_even b k n plane line column yes_even)
-      ∙ sym (before_even b k (suc n) plane line column yes_even)
-  | inr not_even ↦
-      hit b k n plane Bottom line column (so_far b k n) frame (ap (λ (s : ℕ). has_lines s Bottom) e) (ap (λ (s : ℕ). is_among (own_lines s) line) e ∙ odd_among line not_even)
-      (ap (λ (s : ℕ). line_in s Bottom (line / 2)) e ∙ sym (ap (λ (s : ℕ). number_among (own_lines s) line) e))
-      ∙ sym (before_odd b k (suc n) plane line column not_even)
+  | inl yes_even ↦ lacks_line b k n plane line column 2 true frame e yes_even refl (even_among line yes_even)
+  | inr not_even ↦ has_line b k n plane line column 2 false frame e not_even refl (odd_among line not_even) refl
 ]
 
 by_structure : (scan : Scan) (n : ℕ) → HasStructure scan n → (n ≡ 3) ⊎ ((n ≡ 1) ⊎ (n ≡ 2))

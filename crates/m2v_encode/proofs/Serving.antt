@@ -17,15 +17,14 @@ use Rattle.m2v_slice.specs.declared.pieces.EncodeShared.TheVariants as part
 use Rattle.m2v_slice.specs.Books.{Book, rows, coded, picture_at, slice_at, task_of, ledger_with, picture_of_job, part_of_job}
 use Rattle.m2v_slice.specs.Cached.{Cached}
 use Rattle.m2v_slice.specs.Conditions.{IsBook}
-use Rattle.m2v_slice.specs.Jobs.{jobs_of, value_of, shared_of, FitsPiece, FitsShared}
+use Rattle.m2v_slice.specs.Jobs.{jobs_of, value_of, shared_part, shared_of, FitsPiece, FitsShared}
 use Rattle.m2v_slice.specs.Needs.{part_small}
 use Rattle.m2v_slice.proofs.Rows.{job_picture}
 use Rattle.m2v_slice.proofs.Coded.{slice_is}
 use Rattle.m2v_slice.proofs.Fits.{slice_fits}
 use Rattle.m2v_slice.proofs.Steady.{task_is}
 use Rattle.m2v_slice.proofs.Sound.{plan_is_good}
-use Rattle.m2v_slice.proofs.Learned.{slice_in, value_plan, value_slice, shared_plan, shared_slice}
-use Rattle.m2v_slice.proofs.Fitting.{slice_size}
+use Rattle.m2v_slice.proofs.Learned.{slice_in, value_plan, value_slice}
 use Rattle.m2v_slice.proofs.Worked.{fits_plan_piece, fits_slice_piece}
 use Rattle.m2v_encode.specs.Kept.{ServeAll}
 
@@ -53,24 +52,11 @@ value_fits b h j lt =
           (fits_slice_piece b h j (slice_in b j) lt n refl (text_most b h p (part_of_job b j - 1) (job_picture b j lt) (row_there b j n)))
     ]
 
-plan_shared : (b : Book) (j : ℕ) (plan : _) (ledger : _) → part_of_job b j ≡ 0 → FitsShared b j (part.Plan plan ledger)
-unfolding FitsShared
-plan_shared b j plan ledger e = e
-
-slice_shared : (b : Book) (j : ℕ) (x : CodedSlice) (bits work : ℕ) → (part_of_job b j ≡ 0 → ⊥) → x.row.dims ≡ dims_of b.settings → FitsShared b j (part.Slice x.row bits work)
-unfolding FitsShared
-slice_shared b j x bits work n same = (n, same)
-
-shared_fits : (b : Book) → IsBook b → (j : ℕ) → j < jobs_of b → FitsShared b j (shared_of b j)
-shared_fits b h j lt =
-    let p = picture_of_job b j in
-    let done = coded b (p + 1) in
-    elim (cases_eq (part_of_job b j) 0) [
-      | inl e ↦ subst (FitsShared b j) (sym (shared_plan b j e)) (plan_shared b j (picture_at done p).plan (ledger_with b done (first_open p) done) e)
-      | inr n ↦ subst (FitsShared b j) (sym (shared_slice b j n))
-          (slice_shared b j (slice_in b j) (length (slice_in b j).text) (slice_in b j).work n
-          (slice_size b h (p + 1) p (part_of_job b j - 1) (job_picture b j lt) (omega arith) (row_there b j n)))
-    ]
+-- and so does what others learn of it
+fits_shared : (b : Book) (j : ℕ) (x : EncodePiece) → FitsPiece b j x → FitsShared b j (shared_part x)
+unfolding FitsPiece FitsShared shared_part
+fits_shared b j (piece.Plan plan ledger) h = h
+fits_shared b j (piece.Slice slice) h = (h.0, h.1)
 
 -- ---- and the same job of another book of the settings
 
@@ -102,6 +88,6 @@ serve_all d h s same posts are = record {
             piece_again d b settings j (get_or posts.items j x).value.piece (subst (FitsPiece d j) (sym (are.pieces j x before)) (value_fits d h j before));
         parts = λ j x lt small.
             let before : j < jobs_of d = omega (arith, small, are.count, posts.ok.0) in
-            shared_again d b settings j (get_or posts.items j x).value.shared (subst (FitsShared d j) (sym (are.parts j x before)) (shared_fits d h j before));
+            shared_again d b settings j (get_or posts.items j x).value.shared (subst (FitsShared d j) (sym (are.parts j x before)) (fits_shared d j (value_of d j) (value_fits d h j before)));
       };
 }

@@ -13,13 +13,20 @@ use m2v_slice::{EncodeBook, EncodePiece, SliceOut, header_bits};
 use m2v_wave::Done;
 use std::marker::Model;
 
-/// A group whose jobs are done: the plan and the slices of each picture. Contracts see the group's book.
-pub(crate) struct DoneGroup {
+/// What is asked of a group once its jobs are done: the settings, its pictures, how many frames it has and how many
+/// macroblock rows a picture has, and the time behind each picture.
+#[derive(Drop)]
+pub(crate) struct GroupFacts {
     pub(crate) settings: Passed,
     pub(crate) pictures: Vec<PictureJob>,
     pub(crate) frames: u32,
     pub(crate) rows: u32,
     pub(crate) times: Vec<u64>,
+}
+
+/// A group whose jobs are done: the plan and the slices of each picture. Contracts see the group's book.
+pub(crate) struct DoneGroup {
+    pub(crate) facts: GroupFacts,
     pub(crate) done: Done<EncodeBook>,
 }
 
@@ -33,20 +40,13 @@ impl Model for DoneGroup {
 
     ghost view = { λ g. g.done };
 
-    ghost invariant = { λ g. IsDone g.done g.settings g.pictures.items g.frames g.rows
-        g.times.items };
+    ghost invariant = { λ g. IsDone g.done g.facts.settings g.facts.pictures.items g.facts.frames
+        g.facts.rows g.facts.times.items };
 }
 
 impl Drop for DoneGroup {
     fn drop(self) {
-        let Self {
-            settings: _,
-            pictures: _,
-            frames: _,
-            rows: _,
-            times: _,
-            done: _,
-        } = self;
+        let Self { facts: _, done: _ } = self;
     }
 }
 
@@ -55,7 +55,7 @@ impl DoneGroup {
     pub(crate) fn settings(&self) -> &Passed
         ensures value { result.now ≡ self.now.settings }
     {
-        &self.settings
+        &self.facts.settings
     }
 
     /// How many pictures it has.
@@ -65,7 +65,7 @@ impl DoneGroup {
         ensures most { result ≤ 126 }
         ensures book { IsBook self.now }
     {
-        self.pictures.len() as u32
+        self.facts.pictures.len() as u32
     }
 
     /// How many frames it has.
@@ -73,7 +73,7 @@ impl DoneGroup {
         ensures value { result ≡ length self.now.frames }
         ensures most { result ≤ 63 }
     {
-        self.frames
+        self.facts.frames
     }
 
     /// How many macroblock rows a picture has.
@@ -81,7 +81,7 @@ impl DoneGroup {
         ensures value { result ≡ rows self.now }
         ensures most { result ≤ 72 }
     {
-        self.rows
+        self.facts.rows
     }
 
     /// A picture.
@@ -91,7 +91,7 @@ impl DoneGroup {
         ensures job { IsJob result.now }
         ensures early { result.now.display < 1000000 }
     {
-        &self.pictures[p as usize]
+        &self.facts.pictures[p as usize]
     }
 
     /// The time behind a picture, in units of 1/720,000 s.
@@ -100,7 +100,7 @@ impl DoneGroup {
         ensures value { result ≡ slice_index self.now.ledger.intervals p }
         ensures small { result < 2 ^ 20 }
     {
-        self.times[p as usize]
+        self.facts.times[p as usize]
     }
 
     /// A slice of a picture.
@@ -109,7 +109,7 @@ impl DoneGroup {
         requires row { r < rows self.now }
         ensures value { result.now ≡ slice_at (all_coded self.now) p r }
     {
-        match self.done.piece(p * (self.rows + 1) + 1 + r) {
+        match self.done.piece(p * (self.facts.rows + 1) + 1 + r) {
             EncodePiece::Slice { out } => out,
             EncodePiece::Plan { plan: _, ledger: _ } => unreachable!(),
         }
@@ -162,7 +162,7 @@ impl DoneGroup {
             (length self.now.pictures - 4) (all_coded self.now) }
     {
         let last = self.pictures() - 1;
-        match self.done.piece(last * (self.rows + 1)) {
+        match self.done.piece(last * (self.facts.rows + 1)) {
             EncodePiece::Plan { plan: _, ledger } => *ledger,
             EncodePiece::Slice { out: _ } => unreachable!(),
         }
@@ -184,14 +184,7 @@ impl DoneGroup {
     pub(crate) fn into_kept(self) -> KeptPosts
         ensures value { result ≡ self.settings }
     {
-        let Self {
-            settings,
-            pictures: _,
-            frames: _,
-            rows: _,
-            times: _,
-            done,
-        } = self;
-        KeptPosts::of(&settings, done)
+        let Self { facts, done } = self;
+        KeptPosts::of(&facts.settings, done)
     }
 }

@@ -15,7 +15,7 @@ ghost use Rattle.m2v_encode.specs.Ready.{IsReady};
 ghost use Rattle.m2v_encode.specs.Steps.{HasRoom, IsFew, GoesOn, GroupCoded, GroupStops, CanCode, book_by};
 
 use crate::answer::{EncodeError, Summary};
-use crate::done::DoneGroup;
+use crate::done::{DoneGroup, GroupFacts};
 use crate::kept::{KeptPosts, bench_for};
 use crate::measured::MeasuredGroup;
 use crate::ready::ReadyGroup;
@@ -189,15 +189,14 @@ impl Coder {
         )?;
         let workers = self.settings.settings().workers;
         let bench = bench_for(alloc, &book, workers, self.kept.take())?;
-        Ok(ReadyGroup {
+        let facts = GroupFacts {
             settings: self.settings,
             pictures,
             frames,
             rows,
             times,
-            book,
-            bench,
-        })
+        };
+        Ok(ReadyGroup { facts, book, bench })
     }
 
     /// Writes the bytes of a group whose jobs are done to output, and its frames, where they are shown, to recon. `ends` tells

@@ -3,10 +3,8 @@ ghost use Rattle.std.specs.Prelude.{◌≡◌};
 ghost use Rattle.m2v_encode.specs.Ready.{IsReady};
 
 use crate::crew::Crew;
-use crate::done::DoneGroup;
+use crate::done::{DoneGroup, GroupFacts};
 use m2v_board::Gate;
-use m2v_order::PictureJob;
-use m2v_set::Passed;
 use m2v_slice::EncodeBook;
 use m2v_wave::{Bench, run_jobs_beside};
 use std::sync::Wait;
@@ -14,11 +12,7 @@ use std::thread::Threads;
 
 /// The book of a group and a bench for its jobs, with what is asked of the group once they are done.
 pub(crate) struct ReadyGroup {
-    pub(crate) settings: Passed,
-    pub(crate) pictures: Vec<PictureJob>,
-    pub(crate) frames: u32,
-    pub(crate) rows: u32,
-    pub(crate) times: Vec<u64>,
+    pub(crate) facts: GroupFacts,
     pub(crate) book: EncodeBook,
     pub(crate) bench: Bench<EncodeBook>,
 }
@@ -36,27 +30,9 @@ impl ReadyGroup {
         ensures done { result.0 ≡ self.book }
         ensures own { F.step own.old result.1 own.new }
     {
-        let ReadyGroup {
-            settings,
-            pictures,
-            frames,
-            rows,
-            times,
-            book,
-            bench,
-        } = self;
+        let ReadyGroup { facts, book, bench } = self;
         let (done, answer) = run_jobs_beside(crew.rt, &book, bench, crew.gate, own);
-        (
-            DoneGroup {
-                settings,
-                pictures,
-                frames,
-                rows,
-                times,
-                done,
-            },
-            answer,
-        )
+        (DoneGroup { facts, done }, answer)
     }
 
     /// Does the group's jobs, by as many workers as the bench has.

@@ -1,32 +1,20 @@
 -- Between two groups: the state there, and where a group begins.
-use Rattle.std.proofs.Common.{◌≡◌, ℕ, ◌≤◌, ◌⊎◌, inl, inr, Bool, false, not, ◌&&◌, List, [], ◌∷◌, length, get_or, Option, None, refl, ap, ◌∙◌, arith}
+use Rattle.std.proofs.Common.{◌≡◌, ℕ, ◌⊎◌, inl, inr, false, not, ◌&&◌, List, [], ◌∷◌, length, get_or, None, refl, ap, ◌∙◌, arith}
 use Rattle.std.specs.Prelude.{nat_eq, is_some}
-use Rattle.m2v_set.specs.declared.settings.Settings.{Settings}
 use Rattle.m2v_order.specs.declared.jobs.PictureJob.{PictureJob}
 use Rattle.m2v_order.proofs.Queues.{true_false}
 use Rattle.m2v_slice.specs.Headers.{begins_group}
 use Rattle.m2v_slice.specs.Books.{Book, no_job, job_at}
 use Rattle.m2v_slice.specs.Conditions.{IsBook}
-use Rattle.m2v_model.specs.declared.state.Open.{Open}
 use Rattle.m2v_model.specs.declared.state.State.{State}
 use Rattle.m2v_model.specs.States.{at_first}
 use Rattle.m2v_model.specs.Streams.{sequence, after}
 use Rattle.m2v_enc_stream.specs.Trees.{sequence_by}
-use Rattle.m2v_enc_stream.specs.States.{state_with}
 use Rattle.m2v_slice.proofs.Firsts.{first_begins}
 use Rattle.m2v_enc_stream.proofs.Turns.{IsCounted}
 use Rattle.m2v_enc_stream.proofs.States.{first_sequence, next_sequence}
-use Rattle.m2v_enc_stream.proofs.TreeGroups.{start_is}
+use Rattle.m2v_enc_stream.proofs.TreeGroups.{IsBetween, start_is}
 use Rattle.m2v_law_shown.proofs.Heads.{Ready}
-
--- a state behind groups, with so many anchors
-pub record IsBetween (s : Settings) (st : State) : Type 0 where
-  pub closed_one : Bool
-  pub anchors : ℕ
-  pub open_one : Option Open
-  pub is : st ≡ state_with s closed_one anchors None open_one
-  pub one : 1 ≤ anchors
-  pub most : anchors ≤ 2
 
 pub record Begins (b : Book) (st : State) : Type 0 where
   pub before : ℕ
@@ -47,8 +35,8 @@ begins_at b h st (inr x) = record {
   counted = record { most = x.most; some = λ e. x.one };
   ready = record {
     behind = (
-      x.closed_one,
-      ap (λ (z : State). after z (sequence (sequence_by b.settings))) x.is ∙ next_sequence b.settings x.closed_one x.anchors None x.open_one ∙ start_is b x.closed_one x.anchors None,
+      x.closed,
+      ap (λ (z : State). after z (sequence (sequence_by b.settings))) x.is ∙ next_sequence b.settings x.closed x.anchors None x.open_one ∙ start_is b x.closed x.anchors None,
     );
     plain = λ e. absurd (true_false (begins_group (job_at b 0)) (first_begins b h) e);
   };

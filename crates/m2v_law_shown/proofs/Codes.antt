@@ -62,38 +62,37 @@ places_of_first b l ends at n =
     map (λ p. place_at b done l ends (at + length (pictures_text b done l ends at p)) p) (range_with_len 0 n)
 
 module _ (law : Spelled) (b : Book) (h : IsBook b) (l : Entries) (ends : Bool) (at : ℕ) where
+  -- where picture n begins, and its text
+  abbrev place_of : ℕ → ℕ
+  place_of n = at + length (pictures_text b (coded b (length b.pictures)) l ends at n)
+
+  abbrev text_of : ℕ → List Bool
+  text_of n = picture_text b (coded b (length b.pictures)) l ends (place_of n) n
+
   first_bits : (n : ℕ) → n ≤ length b.pictures → bits_of_all (bytes_of_first b l ends at n) ≡ length (pictures_text b (coded b (length b.pictures)) l ends at n)
   unfolding pictures_text bits_of_all
   first_bits zero le = refl
   first_bits (suc n) le =
-      let done = coded b (length b.pictures) in
-      let t = pictures_text b done l ends at n in
-      let here = at + length t in
-      let text = picture_text b done l ends here n in
       let lt : n < length b.pictures = omega (arith, le) in
       let rec = first_bits n (omega (arith, le)) in
-      let one = bytes_by text (picture_text_holds law b h l ends (length b.pictures) n here lt lt).edge in
-      ap bits_of_all (range_more (λ p. bytes_at b done l ends (at + length (pictures_text b done l ends at p)) p) n)
-      ∙ bits_append (bytes_of_first b l ends at n) (packed text ∷ [])
-      ∙ omega (arith, bits_one (packed text), rec, one, length-append t text)
+      let one = bytes_by (text_of n) (picture_text_holds law b h l ends (length b.pictures) n (place_of n) lt lt).edge in
+      ap bits_of_all (range_more (λ p. bytes_at b (coded b (length b.pictures)) l ends (place_of p) p) n)
+      ∙ bits_append (bytes_of_first b l ends at n) (packed (text_of n) ∷ [])
+      ∙ omega (arith, bits_one (packed (text_of n)), rec, one, length-append (pictures_text b (coded b (length b.pictures)) l ends at n) (text_of n))
 
   first_codes : (n : ℕ) → n ≤ length b.pictures → codes at (bytes_of_first b l ends at n) ≡ places_of_first b l ends at n
   unfolding codes
   first_codes zero le = refl
   first_codes (suc n) le =
-      let done = coded b (length b.pictures) in
-      let t = pictures_text b done l ends at n in
-      let here = at + length t in
-      let text = picture_text b done l ends here n in
-      let lt : n < length b.pictures = omega (arith, le) in
       let few : n ≤ length b.pictures = omega (arith, le) in
-      let place : at + bits_of_all (bytes_of_first b l ends at n) + code_bits (packed text) ≡ here + bits_to_code (job_at b n) =
-      omega (arith, first_bits n few, piece_code law b h l ends here n lt) in
-      ap (codes at) (range_more (λ p. bytes_at b done l ends (at + length (pictures_text b done l ends at p)) p) n)
-      ∙ codes_append (bytes_of_first b l ends at n) (packed text ∷ []) at
-      ∙ ap (λ (cs : List ℕ). cs ++ codes (at + bits_of_all (bytes_of_first b l ends at n)) (packed text ∷ [])) (first_codes n few)
+      let bytes = packed (text_of n) in
+      let place : at + bits_of_all (bytes_of_first b l ends at n) + code_bits bytes ≡ place_of n + bits_to_code (job_at b n) =
+      omega (arith, first_bits n few, piece_code law b h l ends (place_of n) n (omega (arith, le))) in
+      ap (codes at) (range_more (λ p. bytes_at b (coded b (length b.pictures)) l ends (place_of p) p) n)
+      ∙ codes_append (bytes_of_first b l ends at n) (bytes ∷ []) at
+      ∙ ap (λ (cs : List ℕ). cs ++ codes (at + bits_of_all (bytes_of_first b l ends at n)) (bytes ∷ [])) (first_codes n few)
       ∙ ap (λ (c : ℕ). places_of_first b l ends at n ++ c ∷ []) place
-      ∙ sym (range_more (λ p. place_at b done l ends (at + length (pictures_text b done l ends at p)) p) n)
+      ∙ sym (range_more (λ p. place_at b (coded b (length b.pictures)) l ends (place_of p) p) n)
 
 -- ---- groups
 

@@ -20,6 +20,7 @@ use Rattle.m2v_slice.specs.Books.{Book, CodedPicture, rows, job_at, slice_at, ha
 use Rattle.m2v_slice.specs.Conditions.{IsBook}
 use Rattle.m2v_slice.proofs.Coded.{count, slice_is, plan_is}
 use Rattle.m2v_slice.proofs.Groups.{HasStructure, picture_is_one, source_size}
+use Rattle.m2v_slice.proofs.Near.{rows_frames, rows_fields}
 use Rattle.m2v_slice.proofs.Steady.{IsPlan, task_is}
 use Rattle.m2v_slice.proofs.Sound.{plan_is_good}
 use Rattle.m2v_enc_stream.specs.Streams.{picture_with, frame_of}
@@ -53,68 +54,45 @@ module _ (b : Book) (done : List CodedPicture) (p : ℕ) (plane : Plane) (line c
   abbrev at_number : ℕ → ℕ
   at_number number = sample_of (slice_at done p (number / side plane)).row plane (number % side plane) column
 
-  top_is : (number : ℕ) → nat_eq (line % 2) 0 ≡ true → picture_with b (job_at b p).frame Top (length done) ≡ Some p
-      → line_in (job_at b p).structure Top (line / 2) ≡ number
-      → samples_of b done (job_at b p).frame plane line column ≡ at_number number
-  unfolding picture_sample
-  top_is number even is place =
+  -- the line stands in the field of the frame that its parity says
+  by_parity : (top : Bool) → nat_eq (line % 2) 0 ≡ top
+      → samples_of b done (job_at b p).frame plane line column ≡ picture_sample b done (picture_with b (job_at b p).frame (lines_by top) (length done)) plane (lines_by top) (line / 2) column
+  by_parity true even =
       cond-true (nat_eq (line % 2) 0) (picture_sample b done (picture_with b (job_at b p).frame Top (length done)) plane Top (line / 2) column)
       (picture_sample b done (picture_with b (job_at b p).frame Bottom (length done)) plane Bottom (line / 2) column) even
-      ∙ ap (λ (o : Option ℕ). picture_sample b done o plane Top (line / 2) column) is
-      ∙ ap at_number place
-
-  bottom_is : (number : ℕ) → nat_eq (line % 2) 0 ≡ false → picture_with b (job_at b p).frame Bottom (length done) ≡ Some p
-      → line_in (job_at b p).structure Bottom (line / 2) ≡ number
-      → samples_of b done (job_at b p).frame plane line column ≡ at_number number
-  unfolding picture_sample
-  bottom_is number odd is place =
+  by_parity false odd =
       cond-false (nat_eq (line % 2) 0) (picture_sample b done (picture_with b (job_at b p).frame Top (length done)) plane Top (line / 2) column)
       (picture_sample b done (picture_with b (job_at b p).frame Bottom (length done)) plane Bottom (line / 2) column) odd
-      ∙ ap (λ (o : Option ℕ). picture_sample b done o plane Bottom (line / 2) column) is
-      ∙ ap at_number place
 
-  -- by the picture's structure
-  whole_is : (n : ℕ) → (job_at b p).structure ≡ n → n ≡ 3 → ((top : Bool) → has_lines (job_at b p).structure (lines_by top) ≡ true → picture_with b (job_at b p).frame (lines_by top) (length done) ≡ Some p)
+  -- of a picture of this structure, which has lines of that field
+  line_is : (n : ℕ) (top : Bool) → (job_at b p).structure ≡ n → has_lines n (lines_by top) ≡ true → nat_eq (line % 2) 0 ≡ top
+      → line_in n (lines_by top) (line / 2) ≡ number_among (own_lines n) line
+      → ((top : Bool) → has_lines (job_at b p).structure (lines_by top) ≡ true → picture_with b (job_at b p).frame (lines_by top) (length done) ≡ Some p)
+      → samples_of b done (job_at b p).frame plane line column ≡ at_number (number_among (own_lines (job_at b p).structure) line)
+  unfolding picture_sample
+  line_is n top is has parity place only =
+      by_parity top parity
+      ∙ ap (λ (o : Option ℕ). picture_sample b done o plane (lines_by top) (line / 2) column) (only top (ap (λ (s : ℕ). has_lines s (lines_by top)) is ∙ has))
+      ∙ ap at_number (ap (λ (s : ℕ). line_in s (lines_by top) (line / 2)) is ∙ (place ∙ ap (λ (s : ℕ). number_among (own_lines s) line) (sym is)))
+
+  whole_is : (job_at b p).structure ≡ 3
+      → ((top : Bool) → has_lines (job_at b p).structure (lines_by top) ≡ true → picture_with b (job_at b p).frame (lines_by top) (length done) ≡ Some p)
       → samples_of b done (job_at b p).frame plane line column ≡ at_number (number_among (own_lines (job_at b p).structure) line)
   unfolding has_lines
-  whole_is n e three only =
-      let is : (job_at b p).structure ≡ 3 = e ∙ three in
-      let number : line ≡ number_among (own_lines (job_at b p).structure) line = ap (λ (s : ℕ). number_among (own_lines s) line) (sym is) in
-      elim (cases_Bool (nat_eq (line % 2) 0)) [
-        | inl even ↦
-            top_is (number_among (own_lines (job_at b p).structure) line) even (only true (ap (λ (s : ℕ). has_lines s Top) is))
-            (ap (λ (s : ℕ). line_in s Top (line / 2)) is ∙ even_line line even ∙ number)
-        | inr odd ↦
-            bottom_is (number_among (own_lines (job_at b p).structure) line) odd (only false (ap (λ (s : ℕ). has_lines s Bottom) is))
-            (ap (λ (s : ℕ). line_in s Bottom (line / 2)) is ∙ (odd_line line odd).0 ∙ number)
-      ]
-
-  first_is : (job_at b p).structure ≡ 1 → ((top : Bool) → has_lines (job_at b p).structure (lines_by top) ≡ true → picture_with b (job_at b p).frame (lines_by top) (length done) ≡ Some p)
-      → is_among (own_lines (job_at b p).structure) line ≡ true
-      → samples_of b done (job_at b p).frame plane line column ≡ at_number (number_among (own_lines (job_at b p).structure) line)
-  unfolding has_lines
-  first_is is only among =
-      let even : nat_eq (line % 2) 0 ≡ true = ap (λ (s : ℕ). is_among (own_lines s) line) (sym is) ∙ among in
-      top_is (number_among (own_lines (job_at b p).structure) line) even (only true (ap (λ (s : ℕ). has_lines s Top) is))
-      (ap (λ (s : ℕ). line_in s Top (line / 2)) is ∙ ap (λ (s : ℕ). number_among (own_lines s) line) (sym is))
-
-  second_is : (job_at b p).structure ≡ 2 → ((top : Bool) → has_lines (job_at b p).structure (lines_by top) ≡ true → picture_with b (job_at b p).frame (lines_by top) (length done) ≡ Some p)
-      → is_among (own_lines (job_at b p).structure) line ≡ true
-      → samples_of b done (job_at b p).frame plane line column ≡ at_number (number_among (own_lines (job_at b p).structure) line)
-  unfolding has_lines
-  second_is is only among =
-      let odd : nat_eq (line % 2) 1 ≡ true = ap (λ (s : ℕ). is_among (own_lines s) line) (sym is) ∙ among in
-      bottom_is (number_among (own_lines (job_at b p).structure) line) (bottom_odd line odd) (only false (ap (λ (s : ℕ). has_lines s Bottom) is))
-      (ap (λ (s : ℕ). line_in s Bottom (line / 2)) is ∙ ap (λ (s : ℕ). number_among (own_lines s) line) (sym is))
+  whole_is is only = elim (cases_Bool (nat_eq (line % 2) 0)) [
+    | inl even ↦ line_is 3 true is refl even (even_line line even) only
+    | inr odd ↦ line_is 3 false is refl odd (odd_line line odd).0 only
+  ]
 
   pub own_is : (scan : Scan) → HasStructure scan (job_at b p).structure
       → ((top : Bool) → has_lines (job_at b p).structure (lines_by top) ≡ true → picture_with b (job_at b p).frame (lines_by top) (length done) ≡ Some p)
       → is_among (own_lines (job_at b p).structure) line ≡ true
       → samples_of b done (job_at b p).frame plane line column ≡ at_number (number_among (own_lines (job_at b p).structure) line)
-  own_is Progressive is only among = whole_is (job_at b p).structure refl is only
-  own_is Frames is only among = whole_is (job_at b p).structure refl is only
-  own_is Fields (inl one) only among = first_is one only among
-  own_is Fields (inr two) only among = second_is two only among
+  unfolding has_lines
+  own_is Progressive is only among = whole_is is only
+  own_is Frames is only among = whole_is is only
+  own_is Fields (inl one) only among = line_is 1 true one refl (ap (λ (s : ℕ). is_among (own_lines s) line) (sym one) ∙ among) refl only
+  own_is Fields (inr two) only among = line_is 2 false two refl (bottom_odd line (ap (λ (s : ℕ). is_among (own_lines s) line) (sym two) ∙ among)) refl only
 
 -- ---- the slices of a picture
 
@@ -174,18 +152,8 @@ module _ (b : Book) (h : IsBook b) (p : ℕ) (lt : p < length b.pictures) where
 
 -- ---- frames
 
-whole_rows : (scan : Scan) (height structure : ℕ) → HasStructure scan structure → structure ≡ 3 → rows_by scan height ≡ frame_rows_by scan height
-unfolding rows_by frame_rows_by
-whole_rows Progressive height structure is three = refl
-whole_rows Frames height structure is three = refl
-whole_rows Fields height structure (inl one) three = absurd (omega (arith, one, three))
-whole_rows Fields height structure (inr two) three = absurd (omega (arith, two, three))
-
 pub half_rows : (scan : Scan) (height structure : ℕ) → HasStructure scan structure → structure ≤ 2 → frame_rows_by scan height ≡ 2 * rows_by scan height
-unfolding rows_by frame_rows_by
-half_rows Progressive height structure three small = absurd (omega (arith, three, small))
-half_rows Frames height structure three small = absurd (omega (arith, three, small))
-half_rows Fields height structure is small = refl
+half_rows scan height structure is small = rows_fields scan height structure is (λ three. omega (arith, three, small))
 
 -- a frame picture
 pub frame_rebuilt : (b : Book) (p : ℕ) (references : List Bool) (refs : References) → IsBook b → p < length b.pictures → (job_at b p).structure ≡ 3
@@ -196,7 +164,7 @@ unfolding frame_of dims_of
 frame_rebuilt b p references refs h lt three each =
     let d = dims_of b.settings in
     let at = samples_of b (coded b (length b.pictures)) (job_at b p).frame in
-    let same : rows b ≡ frame_rows_by b.settings.scan b.settings.height = whole_rows b.settings.scan b.settings.height (job_at b p).structure (picture_is_one b h p lt).structure three in
+    let same : rows b ≡ frame_rows_by b.settings.scan b.settings.height = sym (rows_frames b.settings.scan b.settings.height (job_at b p).structure (picture_is_one b h p lt).structure three) in
     ap (λ (n : ℕ). rows_in (λ r. task_at b p r) references refs n (blank d d.mb_rows)) same
     ∙ frame_painted (λ r. task_at b p r) d references refs at
     (λ r small. let less : r < rows b = omega (arith, small, same) in is_row b h p lt Whole refs r (ap own_lines three) less (each r less))

@@ -1,6 +1,7 @@
 -- The times between the removals of the pictures that the stream tells are those of its jobs.
 use Rattle.std.proofs.Common.{◌≡◌, ℕ, ◌%◌, Bool, true, false, not, ◌&&◌, ◌||◌, cond, List, [], ◌∷◌, map, Option, Some, None, refl, sym, ap, subst, ◌∙◌}
 use Rattle.std.specs.Prelude.{All, nat_eq}
+use Rattle.std.proofs.Math.Bool.{and-false}
 use Rattle.std.proofs.lemmas.List.Elements.{All-head, All-tail}
 use Rattle.m2v_set.specs.declared.settings.Settings.{Settings}
 use Rattle.m2v_set.specs.declared.settings.Scan.{Scan}
@@ -52,18 +53,10 @@ plain_time Fields code whole false false longest w = rw w refl
 plain_after : (scan : Scan) (whole b end : Bool) → after_by scan whole b false false end ≡ false
 plain_after scan true true end = refl
 plain_after scan true false false = refl
-plain_after scan true false true = by_scan (is_progressive scan)
-  where
-    by_scan : (p : Bool) → (not p && false) ≡ false
-    by_scan true = refl
-    by_scan false = refl
+plain_after scan true false true = and-false (not (is_progressive scan))
 plain_after scan false true end = refl
 plain_after scan false false false = refl
-plain_after scan false false true = by_scan (is_progressive scan)
-  where
-    by_scan : (p : Bool) → (not p && false) ≡ false
-    by_scan true = refl
-    by_scan false = refl
+plain_after scan false false true = and-false (not (is_progressive scan))
 
 -- with pulldown, which frames have
 film_time_is : (code : ℕ) (whole b r before end : Bool) → IsWhole Frames whole end

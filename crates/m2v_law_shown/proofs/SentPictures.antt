@@ -74,18 +74,19 @@ whole_group : (s : Settings) (x : Progress) (g : Group Samples) → MayFollow s 
 unfolding in_group
 whole_group s x g may = group_bits (book_of s x g) may.book false (length x.text) (length g.pictures) (omega arith)
 
+-- a group has a last picture
+last_is : (s : Settings) (x : Progress) (g : Group Samples) → MayFollow s x g true → suc (length g.pictures - 1) ≡ length g.pictures
+last_is s x g may = let some = may.book.group.picture in omega (arith, some)
+
 last_group : (s : Settings) (x : Progress) (g : Group Samples) → MayFollow s x g true
     → (let b = book_of s x g in
     let last = length g.pictures - 1 in
     bits_of_sent (group_sent b true (length x.text) last ++ sent_at b true (length x.text) 32 last ∷ []) ≡ with_end (in_group bits_at s x g true))
 unfolding in_group
 last_group s x g may =
-    let b = book_of s x g in
-    let last = length g.pictures - 1 in
-    let some = may.book.group.picture in
-    let is : suc last ≡ length g.pictures = omega (arith, some) in
-    last_bits b may.book (length x.text) last (omega (arith, some))
-    ∙ ap (λ (n : ℕ). with_end (map (bits_by b true (length x.text)) (range_with_len 0 n))) is
+    let is = last_is s x g may in
+    last_bits (book_of s x g) may.book (length x.text) (length g.pictures - 1) (omega (arith, is))
+    ∙ ap (λ (n : ℕ). with_end (map (bits_by (book_of s x g) true (length x.text)) (range_with_len 0 n))) is
 
 pub groups_take : (s : Settings) (groups : List (Group Samples)) (x : Progress) → AllFollow s x groups
     → bits_of_sent (groups_sent s x groups) ≡ with_end (in_groups bits_at s x groups)
@@ -94,8 +95,7 @@ groups_take s [] x all = refl
 groups_take s (g ∷ []) x all = last_group s x g all
 groups_take s (g ∷ h ∷ more) x all =
     let y = group_coded s x g false in
-    let here = group_sent (book_of s x g) false (length x.text) (length g.pictures) in
-    map-append (λ (z : SentPicture). z.bits) here (groups_sent s y (h ∷ more))
+    map-append (λ (z : SentPicture). z.bits) (group_sent (book_of s x g) false (length x.text) (length g.pictures)) (groups_sent s y (h ∷ more))
     ∙ ap (λ (ns : List ℕ). ns ++ bits_of_sent (groups_sent s y (h ∷ more))) (whole_group s x g all.0)
     ∙ ap (λ (ns : List ℕ). in_group bits_at s x g false ++ ns) (groups_take s (h ∷ more) y all.1)
     ∙ sym (end_append (in_group bits_at s x g false) (in_groups bits_at s y (h ∷ more)) (groups_some s h more y all.1))
@@ -110,11 +110,7 @@ end_codes : (s : Settings) (x : Progress) (g : Group Samples) → MayFollow s x 
     codes_of_sent (group_sent b true (length x.text) last ++ sent_at b true (length x.text) 32 last ∷ []) ≡ in_group code_at s x g true)
 unfolding in_group
 end_codes s x g may =
-    let b = book_of s x g in
-    let last = length g.pictures - 1 in
-    let some = may.book.group.picture in
-    let is : suc last ≡ length g.pictures = omega (arith, some) in
-    last_codes b (length x.text) last ∙ ap (λ (n : ℕ). map (codes_by b) (range_with_len 0 n)) is
+    last_codes (book_of s x g) (length x.text) (length g.pictures - 1) ∙ ap (λ (n : ℕ). map (codes_by (book_of s x g)) (range_with_len 0 n)) (last_is s x g may)
 
 pub groups_begin : (s : Settings) (groups : List (Group Samples)) (x : Progress) → AllFollow s x groups
     → codes_of_sent (groups_sent s x groups) ≡ in_groups code_at s x groups
@@ -123,7 +119,6 @@ groups_begin s [] x all = refl
 groups_begin s (g ∷ []) x all = end_codes s x g all
 groups_begin s (g ∷ h ∷ more) x all =
     let y = group_coded s x g false in
-    let here = group_sent (book_of s x g) false (length x.text) (length g.pictures) in
-    map-append (λ (z : SentPicture). z.code) here (groups_sent s y (h ∷ more))
+    map-append (λ (z : SentPicture). z.code) (group_sent (book_of s x g) false (length x.text) (length g.pictures)) (groups_sent s y (h ∷ more))
     ∙ ap (λ (ns : List ℕ). ns ++ codes_of_sent (groups_sent s y (h ∷ more))) (whole_codes s x g)
     ∙ ap (λ (ns : List ℕ). in_group code_at s x g false ++ ns) (groups_begin s (h ∷ more) y all.1)

@@ -38,7 +38,8 @@ use Rattle.m2v_law_shown.proofs.Order.{shown_on}
 use Rattle.m2v_law_shown.proofs.Mapped.{made_shown}
 use Rattle.m2v_law_shown.proofs.Shapes.{waits}
 use Rattle.m2v_law_shown.proofs.Runs.{goes_on, goes_one, tells_on, range_more}
-use Rattle.m2v_law_shown.proofs.Between.{IsBetween, begins_at, past_end}
+use Rattle.m2v_enc_stream.proofs.TreeGroups.{IsBetween}
+use Rattle.m2v_law_shown.proofs.Between.{begins_at, past_end}
 use Rattle.m2v_law_shown.proofs.Steps.{raw_append, pictures_go}
 use Rattle.m2v_law_shown.proofs.Groups.{group_shown, last_anchor_is}
 use Rattle.m2v_law_shown.proofs.Good.{IsGood, AreGood, are_good}
@@ -106,7 +107,7 @@ group_gone s x g ends sent st store good stands same =
         delays = u.delays ∙ sym (map-map delay_by (sent_at b ends (length x.text) 0) (range_with_len 0 n)) ∙ same;
         order = λ before. subst (λ (raw : List (List ℕ × ℕ)). ShowAll before raw (group_out s x g)) (sym u.held.raw) (group_shown b h before);
         between = record {
-          closed_one = form.0;
+          closed = form.0;
           anchors = anchors_behind begin.before b n;
           open_one = form.1.0;
           is = form.1.1 ∙ ap (λ (w : Option FirstField). state_with s form.0 (anchors_behind begin.before b n) w form.1.0) (none_behind b h);

@@ -7,7 +7,7 @@ use Rattle.std.proofs.lemmas.List.Concat.{flat_map-append}
 use Rattle.std.proofs.lemmas.List.Elements.{All-append, All-cons, All-nil, All-head, All-tail}
 use Rattle.m2v_port.specs.Ends.{Change, change}
 use Rattle.m2v_port.specs.Port.{Moves, IsAtEnd, Grows, GrowsByPrefix}
-use Rattle.m2v_port.proofs.Runs.{rose_since, moves_on, moves_nothing, grows_on, grows_by_all, grows_by_none, prefix_on}
+use Rattle.m2v_port.proofs.Runs.{rose_since, moves_on, moves_nothing, then_nothing, grows_on, grows_by_all, grows_by_none, prefix_on}
 use Rattle.m2v_plane.specs.Raw.{raw}
 use Rattle.m2v_y4m.specs.declared.header.Y4mHeader.{Y4mHeader}
 use Rattle.m2v_y4m.specs.declared.answer.PackSummary.{PackSummary}
@@ -42,12 +42,6 @@ count_more frames f n is = omega (arith, length-append frames (f ∷ []), is)
 moved_more : (l0 l1 l2 : Option (List ℕ)) (frames : List (List ℕ)) (f : List ℕ) → Moves l0 (raw frames) l1 → Moves l1 f l2 → Moves l0 (raw (frames ++ f ∷ [])) l2
 moved_more l0 l1 l2 frames f first second = subst (λ (b : List ℕ). Moves l0 b l2) (sym (raw_more frames f)) (moves_on first second)
 
-no_part : (frames : List (List ℕ)) (l0 l1 : Option (List ℕ)) → Moves l0 (raw frames) l1 → Moves l0 (raw frames ++ []) l1
-no_part frames l0 l1 moved = subst (λ (b : List ℕ). Moves l0 b l1) (sym (append-nil (raw frames))) moved
-
-then_nothing : (bytes : List ℕ) (l0 l1 l2 : Option (List ℕ)) → Moves l0 bytes l1 → Moves l1 [] l2 → Moves l0 bytes l2
-then_nothing bytes l0 l1 l2 first second = subst (λ (b : List ℕ). Moves l0 b l2) (append-nil bytes) (moves_on first second)
-
 -- the bytes of so many frames of one size
 texts_size : (size : ℕ) (h : Y4mHeader) (frames : List (List ℕ)) → size ≡ size_of h → AreWhole h frames → length (flat_map frame_text frames) ≡ length frames * (6 + size)
 texts_size size h [] is whole = omega arith
@@ -64,7 +58,6 @@ total_size h frames number size bytes same line count whole =
     ap₂ (λ a b. a + b) line (ap (λ n. n * (6 + size)) (sym count) ∙ sym (texts_size size h frames same whole))
     ∙ sym (length-append (header_text h) (flat_map frame_text frames))
 
--- The input's states are i0, i1 and so on, the output's o0, o1.
 module _ {S K : Type 0} (left : S → Option (List ℕ)) (input_faults : S → ℕ) (held : K → Option (List ℕ)) (output_faults : K → ℕ) where
   abbrev input : S → S → Change
   input = change left input_faults
@@ -117,7 +110,7 @@ module _ {S K : Type 0} (left : S → Option (List ℕ)) (input_faults : S → �
     most = omega (arith, count_more before.frames next.frame number before.count);
     whole = whole_more number h before.frames next.frame before.whole next.whole;
     less = omega arith;
-    moved = no_part (before.frames ++ next.frame ∷ []) (left i0) (left i2) (moved_more (left i0) (left i1) (left i2) before.frames next.frame before.moved next.moved);
+    moved = moves_on (moved_more (left i0) (left i1) (left i2) before.frames next.frame before.moved next.moved) (moves_nothing (left i2));
     grown = subst (λ (b : List ℕ). GrowsByPrefix (held o0) b (held o2)) (sym (text_more h before.frames next.frame)) (prefix_on before.grown next.grown);
   }
 
@@ -150,7 +143,7 @@ module _ {S K : Type 0} (left : S → Option (List ℕ)) (input_faults : S → �
     frames = before.frames;
     most = omega (arith, before.count);
     whole = before.whole;
-    moved = then_nothing (raw before.frames) (left i0) (left i1) (left i2) before.moved moved;
+    moved = then_nothing before.moved moved;
     end = end;
     grown = subst (λ (x : Option (List ℕ)). Grows (held o0) (y4m_text h before.frames) x) (sym stays) before.grown;
     numbers = is ∙ ap₂ (λ n b. record { frames = n; bytes = b }) (sym before.count) (total_size h before.frames number size bytes same line before.count before.whole);

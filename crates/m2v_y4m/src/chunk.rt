@@ -40,24 +40,6 @@ fn move_to_front(bytes: &mut [u8], at: usize, end: usize)
     bytes.copy_within(at..end, 0);
 }
 
-/// Reads into the room behind so many bytes. Answers how many bytes were read: 0 at the end.
-fn read_behind<S: Source>(inner: &mut S, bytes: &mut [u8], held: usize) -> Result<usize, PortError>
-    requires room { held < length bytes.old }
-    ensures within { IfOk result (λ n. held + n ≤ length bytes.old) }
-    ensures same { length bytes.new ≡ length bytes.old }
-    ensures front { take held bytes.new ≡ take held bytes.old }
-    ensures moved { IfOk result (λ n. Moves (S.left inner.old) (take n (drop held bytes.new))
-        (S.left inner.new)) }
-    ensures end { result ≡ Ok 0 → IsAtEnd (S.left inner.new) }
-    ensures err { OnErr result (S.left inner.new ≡ S.left inner.old) }
-    ensures failed { IsErrOf result PortError.Failed
-        → Rose (S.faults inner.old) (S.faults inner.new) }
-    ensures faults { S.faults inner.old ≤ S.faults inner.new }
-    ensures lenders { S.lenders inner.new ≡ S.lenders inner.old }
-{
-    inner.read(&mut bytes[held..])
-}
-
 /// Moves the bytes from one place up to another to the front, and reads behind them. Answers how many bytes were read: 0 at
 /// the end.
 fn read_on<S: Source>(
@@ -82,7 +64,7 @@ fn read_on<S: Source>(
     ensures lenders { S.lenders inner.new ≡ S.lenders inner.old }
 {
     move_to_front(bytes, at, end);
-    read_behind(inner, bytes, end - at)
+    inner.read(&mut bytes[end - at..])
 }
 
 impl Chunk {

@@ -1,10 +1,10 @@
 ghost use Rattle.std.specs.Prelude.{◌≡◌, ◌≤◌, OnOk};
-ghost use Rattle.m2v_set.specs.Rules.{judge, judged, at_least, at_most};
+ghost use Rattle.m2v_set.specs.Rules.{judged};
 ghost use Rattle.m2v_y4m.specs.Rules.{header_rules, IsHeader};
 ghost use Rattle.m2v_y4m.specs.Frames.{size_of};
 
 use m2v_plane::{Dims, bytes_of};
-use m2v_set::Unfit;
+use m2v_set::{Unfit, at_least, at_most};
 
 /// What the header line of a YUV4MPEG2 text says.
 #[derive(Clone, Copy, Debug, PartialEq, Eq)]
@@ -19,43 +19,6 @@ pub struct Y4mHeader {
     pub top: bool,
 }
 
-/// The value is at least the bound.
-#[tactic(auto, unfolding(m2v_set::specs::Rules::judge))]
-fn at_least(have: u32, need: u32) -> Result<(), Unfit>
-    ensures value { result ≡ judge (at_least 8 have need) }
-    ensures holds { OnOk result (need ≤ have) }
-{
-    if need <= have {
-        Ok(())
-    } else {
-        Err(unfit(have, need))
-    }
-}
-
-/// The value is at most the bound.
-#[tactic(auto, unfolding(m2v_set::specs::Rules::judge))]
-fn at_most(have: u32, need: u32) -> Result<(), Unfit>
-    ensures value { result ≡ judge (at_most 8 have need) }
-    ensures holds { OnOk result (have ≤ need) }
-{
-    if have <= need {
-        Ok(())
-    } else {
-        Err(unfit(have, need))
-    }
-}
-
-/// A condition of rule 8 that fails.
-fn unfit(have: u32, need: u32) -> Unfit
-    ensures value { result ≡ record { rule = 8; have = have; need = need } }
-{
-    Unfit {
-        rule: 8,
-        have: u128::from(have),
-        need: u128::from(need),
-    }
-}
-
 impl Y4mHeader {
     /// Rule 8, which a header that is written keeps: a width of 1 to 1920, a height of 1 to 1152, and a rate code of 1
     /// to 8. The first condition that fails is told.
@@ -64,12 +27,12 @@ impl Y4mHeader {
         ensures value { result ≡ judged (header_rules self.now) }
         ensures holds { OnOk result (IsHeader self.now) }
     {
-        at_least(self.width, 1)?;
-        at_most(self.width, 1920)?;
-        at_least(self.height, 1)?;
-        at_most(self.height, 1152)?;
-        at_least(self.rate_code, 1)?;
-        at_most(self.rate_code, 8)
+        at_least(8, u128::from(self.width), 1)?;
+        at_most(8, u128::from(self.width), 1920)?;
+        at_least(8, u128::from(self.height), 1)?;
+        at_most(8, u128::from(self.height), 1152)?;
+        at_least(8, u128::from(self.rate_code), 1)?;
+        at_most(8, u128::from(self.rate_code), 8)
     }
 }
 

@@ -1,11 +1,11 @@
-ghost use Rattle.std.specs.Prelude.{ℕ, ◌≡◌, ◌+◌, ◌-◌, ◌*◌, ◌<◌, ◌≤◌, [], ◌∷◌, true, false, length, take, drop, IfOk, IfErr, OnOk, IsTrue, Ok, string_bytes, codes};
+ghost use Rattle.std.specs.Prelude.{ℕ, ◌≡◌, ◌+◌, ◌-◌, ◌*◌, ◌<◌, ◌≤◌, [], ◌∷◌, true, false, length, take, drop, IfOk, IfErr, IsTrue, Ok, string_bytes, codes};
 ghost use Rattle.m2v_port.specs.Ends.{change, SinkStays};
-ghost use Rattle.m2v_port.specs.Port.{Moves, IsAtEnd, Grows};
+ghost use Rattle.m2v_port.specs.Port.{Moves, IsAtEnd};
 ghost use Rattle.m2v_y4m.specs.Frames.{size_of};
 ghost use Rattle.m2v_y4m.specs.Writing.{header_text, scan_text};
 ghost use Rattle.m2v_y4m.specs.Rules.{IsHeader};
 ghost use Rattle.m2v_y4m.specs.Answers.{Packed, PackStops};
-ghost use Rattle.m2v_y4m.specs.Packing.{IsRoom, FramePacked, NoFrame, FrameStops, ReadStops, PutStops};
+ghost use Rattle.m2v_y4m.specs.Packing.{IsRoom, FramePacked, NoFrame, FrameStops, ReadStops};
 
 use crate::answer::{EncodeFault, PackSummary};
 use crate::header::{Y4mHeader, frame_size};
@@ -73,7 +73,11 @@ fn pack_all<S: Source, K: Sink>(
     ensures input { S.faults input.old ≤ S.faults input.new }
 {
     let _size = frame_size(header);
-    put(line, output)?;
+    match output.put(line) {
+        Ok(()) => {}
+        Err(PortError::Failed) => return Err(EncodeFault::Write),
+        Err(PortError::Memory) => return Err(EncodeFault::Memory),
+    }
     for number in 0..MOST {
         if !next(header, text, input, output)? {
             return Ok(summary_of(line, text, number));
@@ -169,8 +173,11 @@ fn next<S: Source, K: Sink>(
     if read < size {
         return Err(EncodeFault::ShortFrame { extra: read as u64 });
     }
-    put(text, output)?;
-    Ok(true)
+    match output.put(text) {
+        Ok(()) => Ok(true),
+        Err(PortError::Failed) => Err(EncodeFault::Write),
+        Err(PortError::Memory) => Err(EncodeFault::Memory),
+    }
 }
 
 /// Reads bytes of the next frame behind its line until they are all there or the input ends, and says how many there are.
@@ -217,18 +224,4 @@ fn goes_on<S: Source>(input: &mut S) -> Result<bool, EncodeFault>
 {
     let mut byte = [0u8];
     Ok(read_frame(&mut byte, input)? > 0)
-}
-
-/// Puts bytes.
-fn put<K: Sink>(bytes: &[u8], output: &mut K) -> Result<(), EncodeFault>
-    requires output { IsTrue (K.ready output.old) }
-    ensures grown { OnOk result (Grows (K.held output.old) bytes.now (K.held output.new)) }
-    ensures err { IfErr result (PutStops bytes.now (change K.held K.faults output.old output.new)) }
-    ensures output { SinkStays K.ready K.name K.faults output.old output.new }
-{
-    match output.put(bytes) {
-        Ok(()) => Ok(()),
-        Err(PortError::Failed) => Err(EncodeFault::Write),
-        Err(PortError::Memory) => Err(EncodeFault::Memory),
-    }
 }

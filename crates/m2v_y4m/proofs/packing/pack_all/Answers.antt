@@ -1,27 +1,33 @@
-use Rattle.std.proofs.Common.{arith, refl, ap, Ok, ◌≡◌, ◌∙◌, ◌+◌, ◌*◌, ℕ, length}
+use Rattle.std.proofs.Common.{arith, refl, ap, Ok, Err, ◌≡◌, ◌∙◌, ◌+◌, ◌*◌, ℕ, length}
 use Rattle.std.proofs.lemmas.Result.{err_from_is_err_and}
 use Rattle.m2v_port.proofs.Runs.{stays_on}
 use Rattle.m2v_y4m.specs.Frames.{size_of}
+use Rattle.m2v_y4m.specs.Packing.{PutStops}
 use Rattle.m2v_y4m.proofs.SizeLaws.{size_some}
 use Rattle.m2v_y4m.proofs.Packs.{so_far_none, so_far_more, stopped, ended, went_on, look_stopped, line_cut}
 use Rattle.m2v_y4m.proofs.packing.pack_all.Goals as goal
 
-pub returns-in_err-put-clause-err : goal.returns-in_err-put-clause-err
-returns-in_err-put-clause-err g c =
-    let p = err_from_is_err_and c.from_residual.result c.from_residual.ensures.1 in
-    rw (p.1, p.2) (line_cut g.S.Source.left g.S.Source.faults g.K.Sink.held g.K.Sink.faults _ c.args.line.now _ _ _ _ (size_some c.args.header.now c.requires.header) c.requires.line c.in_err-put.ensures.err)
+pub returns-in-Err-Failed-clause-err : goal.returns-in-Err-Failed-clause-err
+unfolding PutStops
+returns-in-Err-Failed-clause-err g c =
+    line_cut g.S.Source.left g.S.Source.faults g.K.Sink.held g.K.Sink.faults _ c.args.line.now _ _ _ _ (size_some c.args.header.now c.requires.header) c.requires.line (c.in-Err-Failed.ensures.failed (ap Err c.in-Err-Failed.field-0-is), c.in-Err-Failed.ensures.err)
+
+pub returns-in-Err-Memory-clause-err : goal.returns-in-Err-Memory-clause-err
+unfolding PutStops
+returns-in-Err-Memory-clause-err g c =
+    line_cut g.S.Source.left g.S.Source.faults g.K.Sink.held g.K.Sink.faults _ c.args.line.now _ _ _ _ (size_some c.args.header.now c.requires.header) c.requires.line c.in-Err-Memory.ensures.err
 
 pub loop-number-init : goal.loop-number-init
 loop-number-init g c = record {
   room = c.requires.text;
-  so_far = so_far_none g.S.Source.left g.S.Source.faults g.K.Sink.held g.K.Sink.faults c.args.header.now c.args.input.now _ _ (rw c.requires.line at c.in_ok-put.ensures.grown);
-  output = c.put.ensures.output;
+  so_far = so_far_none g.S.Source.left g.S.Source.faults g.K.Sink.held g.K.Sink.faults c.args.header.now c.args.input.now _ _ (rw c.requires.line at c.in-Ok.ensures.ok);
+  output = record { is_ready = c.put.ensures.ready; keeps_name = c.put.ensures.name; counts = c.put.ensures.faults };
   input = omega arith;
 }
 
 pub returns-in_err-next-clause-err : goal.returns-in_err-next-clause-err
 returns-in_err-next-clause-err g c =
-    let p = err_from_is_err_and c.from_residual-in_err-next.result c.from_residual-in_err-next.ensures.1 in
+    let p = err_from_is_err_and c.from_residual.result c.from_residual.ensures.1 in
     let inv = c.loop-number.invariant in
     rw (p.1, p.2) (stopped g.S.Source.left g.S.Source.faults g.K.Sink.held g.K.Sink.faults c.args.header.now c.loop-number.number _ _ _ _ _ _ _ (size_some c.args.header.now c.requires.header) (omega arith)
     inv.input inv.output.counts inv.so_far c.in_err-next.ensures.err)
