@@ -177,8 +177,6 @@ unfolding after stopped_from slices_by with_part
 picture_opens z s store end us mid info extension ps fault e later n size due =
     let w = shut z (Some s) false in
     let b : Between = record { state = w; store = store } in
-    let o = opened w info extension in
-    let z2 = after_picture w info extension in
     let read : unit_read w us ≡ Ok ((true, picture info extension), mid) = sym (unit_same z (Some s) us) ∙ e in
     elim (cases_Bool (drops w info.kind)) [
       | inl on ↦ inl (picture_drops z s store us mid info extension ps fault read later n on)
@@ -186,9 +184,9 @@ picture_opens z s store end us mid info extension ps fault e later n size due =
         es = [];
         no_pictures = refl;
         at = record {
-          z = z2;
+          z = after_picture w info extension;
           s = s;
-          o = o;
+          o = opened w info extension;
           mid = mid;
           later_parts = ps;
           later = later;

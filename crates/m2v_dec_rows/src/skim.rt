@@ -105,34 +105,7 @@ impl Skim {
         Ok(())
     }
 
-    /// Reads a unit that is a slice: its row alone is looked at.
-    fn slice(
-        &mut self,
-        piece: &Piece,
-        start: u64,
-        u: &Unit,
-        units: &UnitReader,
-    ) -> Result<Round, Memory>
-        requires piece { IsSoundPiece piece.now }
-        requires sound { IsSoundSkim piece.now self.old }
-        requires ends { EndsWith (whole_of piece.now) (u.now ∷ units.now) }
-        requires start { start ≡ unit_bits (u.now ∷ units.now) }
-        requires slice { slice_stands self.old.state (value_of u.now) ≡ true }
-        requires long { 4 ≤ length u.now }
-        ensures { IfOk result (λ round. Rounds piece.now self.old round self.new units.now
-            ((known_unit self.old.state start (value_of u.now) u.now).read units.now)) }
-    {
-        let row = u32::from(u.value()) - 1;
-        match slice_place(&self.state, row, start) {
-            Ok(_) => {
-                self.pass_over(piece, row, start, u)?;
-                Ok(Round::More)
-            }
-            Err(stop) => Ok(Round::Broken(stop)),
-        }
-    }
-
-    /// Reads a unit that is there.
+    /// Reads a unit that is there; of a slice its row alone is looked at.
     fn known(
         &mut self,
         piece: &Piece,
@@ -149,10 +122,17 @@ impl Skim {
         ensures { IfOk result (λ round. Rounds piece.now self.old round self.new units.new
             ((known_unit self.old.state start (value_of u.now) u.now).read units.old)) }
     {
-        if is_slice(&self.state, u) {
-            return self.slice(piece, start, u, units);
+        if !is_slice(&self.state, u) {
+            return Ok(self.header(piece, start, u, units));
         }
-        Ok(self.header(piece, start, u, units))
+        let row = u32::from(u.value()) - 1;
+        match slice_place(&self.state, row, start) {
+            Ok(_) => {
+                self.pass_over(piece, row, start, u)?;
+                Ok(Round::More)
+            }
+            Err(stop) => Ok(Round::Broken(stop)),
+        }
     }
 
     /// The end of the piece, which leaves the picture open.
