@@ -1,8 +1,3 @@
-ghost use Rattle.std.specs.Prelude.{◌≡◌};
-ghost use Rattle.m2v_cut.specs.declared.answer.CutError.TheVariants as errors;
-
-use m2v_decode::Memory;
-
 /// What was cut out.
 #[derive(Clone, Copy, Debug, PartialEq, Eq)]
 pub struct CutSummary {
@@ -29,12 +24,4 @@ pub enum CutError {
     PictureTooLarge,
     /// Memory ran out.
     Memory,
-}
-
-impl From<Memory> for CutError {
-    ghost from_gives = { λ e f. f ≡ errors.Memory };
-
-    fn from(_: Memory) -> CutError {
-        CutError::Memory
-    }
 }

@@ -96,7 +96,9 @@ fn cut_group<S: Source, K: Sink>(
     ensures output { SinkStays K.ready K.name K.faults output.old output.new }
     ensures input { S.faults input.old ≤ S.faults input.new }
 {
-    let mut cutter = Cutter::new(alloc)?;
+    let Ok(mut cutter) = Cutter::new(alloc) else {
+        return Err(CutError::Memory);
+    };
     let found = find(alloc, from, &mut cutter, input)?;
     cut_from(alloc, found, count, &mut cutter, input, output)
 }

@@ -57,15 +57,11 @@ Is u x t rest = UnitIs u x.0 x.1 t rest
 -- ---- parts that are no headers
 
 abbrev IsOther : Part → Type 0
-IsOther (sequence s) = ⊥
-IsOther (group g) = ⊥
-IsOther (picture info extension) = ⊥
 IsOther (matrices m) = Unit {0}
 IsOther (slice row x) = Unit {0}
 IsOther (unread_slice row w) = Unit {0}
 IsOther (skipped_unit w) = Unit {0}
-IsOther ending = ⊥
-IsOther over = ⊥
+IsOther _ = ⊥
 
 other_is : (u : List ℕ) (p : Part) (t rest : Units) → IsPlain (value_of u) → IsOther p × (rest ≡ t) → PartIs u p t rest
 other_is u (sequence s) t rest h o = absurd o.0
@@ -135,18 +131,10 @@ behind_stands own (Some w) start s v t mid rest n x =
 
 sequence_stands : (st : State) (start : ℕ) (u : List ℕ) (p : Part) (t rest : Units) → value_of u ≡ 0xB3 → (sequence_unit st start u).Stands p t rest → PartIs u p t rest
 unfolding sequence_unit seq close no_second_field_due rule inside here unit_at done
-sequence_stands st start u p t rest e x =
-    let paired = x.3 in
-    let info = paired.3 in
-    let next = info.3 in
-    let unit = next.3 in
-    let extension = unit.3 in
-    let same = extension.3 in
-    let end = same.3 in
-    let from : next.1 ≡ t = next.2.1 ∙ info.2.0 ∙ paired.2.1 ∙ x.2.1 in
-    let to : rest ≡ extension.1 = end.1 ∙ same.2.1 in
-    let has = behind_stands 1 unit.0 next.0 _ extension.0 next.1 unit.1 extension.1 unit.2 extension.2 in
-    subst (λ (q : Part). PartIs u q t rest) (sym end.0) (e, subst (HasExtension t) (sym to) (subst (λ (l : Units). HasExtension l extension.1) from has))
+sequence_stands st start u p t rest e (_, _, ended, (_, _, paired, (info, _, own, (next, at, stands, (v, left, there, (x, behind, read, (_, _, same, is))))))) =
+    let from : at ≡ t = stands.1 ∙ own.0 ∙ paired.1 ∙ ended.1 in
+    let to : rest ≡ behind = is.1 ∙ same.1 in
+    subst (λ (q : Part). PartIs u q t rest) (sym is.0) (e, subst (HasExtension t) (sym to) (subst (λ (l : Units). HasExtension l behind) from (behind_stands 1 v next _ x at left behind there read)))
 
 group_stands : (st : State) (start : ℕ) (u : List ℕ) (p : Part) (t rest : Units) → value_of u ≡ 0xB8 → (group_unit st start u).Stands p t rest → PartIs u p t rest
 unfolding group_unit seq close no_second_field_due rule inside done
@@ -158,18 +146,10 @@ group_stands st start u p t rest e x =
 
 picture_stands : (st : State) (start : ℕ) (u : List ℕ) (p : Part) (t rest : Units) → value_of u ≡ 0x00 → (picture_unit st start u).Stands p t rest → PartIs u p t rest
 unfolding picture_unit seq close rule inside here unit_at done
-picture_stands st start u p t rest e x =
-    let info = x.3 in
-    let next = info.3 in
-    let unit = next.3 in
-    let extension = unit.3 in
-    let pair = extension.3 in
-    let anchor = pair.3 in
-    let end = anchor.3 in
-    let from : next.1 ≡ t = next.2.1 ∙ info.2.0 ∙ x.2.1 in
-    let to : rest ≡ extension.1 = end.1 ∙ anchor.2.1 ∙ pair.2.1 in
-    let has = behind_stands 8 unit.0 next.0 _ extension.0 next.1 unit.1 extension.1 unit.2 extension.2 in
-    subst (λ (q : Part). PartIs u q t rest) (sym end.0) (e, subst (HasExtension t) (sym to) (subst (λ (l : Units). HasExtension l extension.1) from has))
+picture_stands st start u p t rest e (_, _, ended, (info, _, own, (next, at, stands, (v, left, there, (x, behind, read, (_, _, pair, (_, _, anchor, is))))))) =
+    let from : at ≡ t = stands.1 ∙ own.0 ∙ ended.1 in
+    let to : rest ≡ behind = is.1 ∙ anchor.1 ∙ pair.1 in
+    subst (λ (q : Part). PartIs u q t rest) (sym is.0) (e, subst (HasExtension t) (sym to) (subst (λ (l : Units). HasExtension l behind) from (behind_stands 8 v next _ x at left behind there read)))
 
 -- ---- one unit
 

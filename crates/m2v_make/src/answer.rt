@@ -1,3 +1,6 @@
+ghost use Rattle.std.specs.Prelude.{◌≡◌};
+ghost use Rattle.m2v_make.specs.declared.answer.MakeError.TheVariants as errors;
+
 use std::alloc::AllocError;
 
 /// The numbers of a stream that was made.
@@ -25,9 +28,6 @@ pub enum MakeError {
 }
 
 impl From<AllocError> for MakeError {
-    ghost use Rattle.std.specs.Prelude.{◌≡◌};
-    ghost use Rattle.m2v_make.specs.declared.answer.MakeError.TheVariants as errors;
-
     ghost from_gives = { λ e f. f ≡ errors.Memory };
 
     fn from(_: AllocError) -> MakeError {

@@ -1,7 +1,7 @@
-//! Where the stream is read again from, and where its frames go to.
-ghost use Rattle.std.specs.Prelude.{[], ◌≡◌, Some, None, true};
+//! Where the stream is read again from.
+ghost use Rattle.std.specs.Prelude.{[], ◌≡◌, Some};
 
-use m2v_port::{PortError, Sink, Source};
+use m2v_port::{PortError, Source};
 use std::marker::Model;
 
 /// A source of bytes that are lent. No read of it fails.
@@ -44,23 +44,5 @@ impl<'a> Source for Lent<'a> {
         buf[..n].copy_from_slice(front);
         self.bytes = behind;
         Ok(n)
-    }
-}
-
-/// A sink that drops what is put. No call of it fails.
-#[derive(Drop)]
-pub(crate) struct Unwanted;
-
-impl Sink for Unwanted {
-    ghost held = { λ _. None };
-
-    ghost faults = { λ _. 0 };
-
-    ghost ready = { λ _. true };
-
-    ghost name = { λ _. None };
-
-    fn put(&mut self, _piece: &[u8]) -> Result<(), PortError> {
-        Ok(())
     }
 }

@@ -9,13 +9,13 @@ ghost use Rattle.m2v_make.specs.Frames.{generated};
 ghost use Rattle.m2v_make.specs.Making.{make_settings, stream_of, Makes, MakeStops};
 
 use crate::answer::{Made, MakeError};
-use crate::ends::{Lent, Unwanted};
+use crate::ends::Lent;
 use crate::generated::Generated;
 use m2v_board::Gate;
 use m2v_check::decode::decode;
 use m2v_check::{DecodeError, Figures, Verdict, check};
 use m2v_encode::{EncodeError, Summary, encode};
-use m2v_port::{PortError, Sink, SureFile, SureSink};
+use m2v_port::{Nowhere, PortError, Sink, SureFile, SureSink};
 use m2v_set::{Level, Planning, Scan, Settings};
 use std::alloc::{AllocError, Global};
 use std::sync::Wait;
@@ -103,7 +103,7 @@ fn decoded(alloc: Global, stream: &[u8], seed: u64) -> Result<(), AllocError>
     requires { stream.now ≡ stream_of seed }
 {
     let mut input = Lent::new(stream);
-    let mut unwanted = Unwanted;
+    let mut unwanted = Nowhere;
     match decode(alloc, &mut input, &mut unwanted) {
         Ok(_) => Ok(()),
         Err(e) => Err(decoding_memory(e)),
