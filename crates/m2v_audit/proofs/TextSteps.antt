@@ -5,7 +5,7 @@ use Rattle.std.proofs.lemmas.List.{length-append}
 use Rattle.m2v_port.specs.Ends.{Change, change}
 use Rattle.m2v_port.specs.Port.{Grows, GrowsByPrefix}
 use Rattle.m2v_port.proofs.Runs.{rose_since, grows_by_nothing, prefix_of_more}
-use Rattle.m2v_model.specs.Pieces.{too_long, too_large, most_input}
+use Rattle.m2v_model.specs.Pieces.{Limit, too_long, too_large, most_input}
 use Rattle.m2v_model.specs.declared.notes.Notes.{Notes}
 use Rattle.m2v_model.specs.PieceNotes.{noted}
 use Rattle.m2v_model.specs.Units.{joined}
@@ -16,7 +16,7 @@ use Rattle.m2v_dec_piece.specs.declared.answer.DecodeError.{DecodeError}
 use Rattle.m2v_dec_piece.specs.declared.answer.DecodeError.TheVariants as errors
 use Rattle.m2v_dec_piece.specs.Cutting.{Cutting, IsReading, left_of, start_of, follows_of}
 use Rattle.m2v_dec_piece.specs.Sound.{IsSoundPiece}
-use Rattle.m2v_dec_piece.specs.Stepping.{Handed, Stopped}
+use Rattle.m2v_dec_piece.specs.Stepping.{Why, Handed, Stopped}
 use Rattle.m2v_dec_piece.proofs.TextLaws.{left_whole}
 use Rattle.m2v_strict.specs.m2v_check.m2v_decode.Decoding.{Decoding, at_start as first_decoding, between, Advanced, whole_of}
 use Rattle.m2v_strict.specs.m2v_check.m2v_decode.Reading.{Reading, nothing_read, Follows}
@@ -24,7 +24,7 @@ use Rattle.m2v_strict.proofs.m2v_check.m2v_decode.EndLaws.{whole_length}
 use Rattle.m2v_strict.proofs.m2v_check.m2v_decode.Following.{follows_none}
 use Rattle.m2v_strict.proofs.m2v_check.m2v_decode.Going.{Gave, gave, moved_some}
 use Rattle.m2v_audit.specs.Auditing.{Auditing, is_begun, cleared, after_piece}
-use Rattle.m2v_audit.specs.Audited.{Audited, Telling, then_comes, begins_another, by_fault, by_fault_in, by_limit, pieces_told}
+use Rattle.m2v_audit.specs.Audited.{Audited, Telling, then_comes, begins_another, by_fault, by_fault_in, limit_at, by_limit, pieces_told}
 use Rattle.m2v_audit.specs.Feeding.{with_again, again_of, comes_again}
 use Rattle.m2v_audit.specs.Leading.{LeadsTo, IsCut, PieceTold, PieceCut, PieceFails, pieces_from, AreTold, HasFault, TextStops}
 use Rattle.m2v_audit.proofs.LeadLaws.{leads_none, leads_on, leads_cut, cut_here, cut_there}
@@ -157,26 +157,25 @@ module _ {S K : Type 0} (left : S → Option (List ℕ)) (input_faults : S → �
   stops_on i0 i1 i2 o0 o1 o2 later optional r a0 a a' c0 c c' errors.PictureTooLarge ins outs none low so s = leads_on left input_faults held output_faults i0 i1 i2 o0 o1 o2 _ _ (λ x rest. by_limit x a' too_large) so.leads s
   stops_on i0 i1 i2 o0 o1 o2 later optional r a0 a a' c0 c c' errors.Memory ins outs none low so s = leads_cut left input_faults held output_faults i0 i1 i2 o0 o1 o2 _ _ so.leads s
 
+  -- the cutter gave no piece, by a limit
+  limit_stops : (i1 i2 : S) (o1 : K) (optional : Bool) (a : Auditing) (b : Between) (c : Cutting) (e : DecodeError) (l : Limit) → ((at : ℕ) (ps : List (List ℕ)) → Why at ps e → limit_at at ps ≡ Some l) → Stopped c (left i1) (left i2) e
+      → LeadsTo (input i1 i2) (output o1 o1) (pieces_from optional a b c) (λ x rest. by_limit x a l)
+  limit_stops i1 i2 o1 optional a b c e l is s = record {
+    bytes = s.bytes;
+    moved = s.moved;
+    lines = [];
+    grown = grows_by_nothing (held o1);
+    told = λ rest here x. limit_step x optional a b _ _ l (is _ _ (s.why rest here));
+  }
+
   -- the cutter gave no piece
   pub cutter_stops : (i1 i2 : S) (o1 : K) (optional later : Bool) (a : Auditing) (b : Between) (c c' : Cutting) (e : DecodeError) → (e ≡ errors.Read → (input i1 i2).Failed) → IsReading e → Stopped c (left i1) (left i2) e
       → TextStops (input i1 i2) (output o1 o1) (pieces_from optional a b c) later c a c' e
   cutter_stops i1 i2 o1 optional later a b c c' errors.Read rose kind s = (rose refl, cut_here left input_faults held output_faults i1 i2 o1 s.bytes _ s.moved)
   cutter_stops i1 i2 o1 optional later a b c c' errors.Write rose kind s = absurd kind
   cutter_stops i1 i2 o1 optional later a b c c' (errors.Stream f) rose kind s = absurd kind
-  cutter_stops i1 i2 o1 optional later a b c c' errors.TooLong rose kind s = record {
-    bytes = s.bytes;
-    moved = s.moved;
-    lines = [];
-    grown = grows_by_nothing (held o1);
-    told = λ rest e x. limit_step x optional a b _ _ too_long (too_long_at _ _ (s.why rest e));
-  }
-  cutter_stops i1 i2 o1 optional later a b c c' errors.PictureTooLarge rose kind s = record {
-    bytes = s.bytes;
-    moved = s.moved;
-    lines = [];
-    grown = grows_by_nothing (held o1);
-    told = λ rest e x. limit_step x optional a b _ _ too_large (too_large_at _ _ (s.why rest e));
-  }
+  cutter_stops i1 i2 o1 optional later a b c c' errors.TooLong rose kind s = limit_stops i1 i2 o1 optional a b c errors.TooLong too_long too_long_at s
+  cutter_stops i1 i2 o1 optional later a b c c' errors.PictureTooLarge rose kind s = limit_stops i1 i2 o1 optional a b c errors.PictureTooLarge too_large too_large_at s
   cutter_stops i1 i2 o1 optional later a b c c' errors.Memory rose kind s = cut_here left input_faults held output_faults i1 i2 o1 s.bytes _ s.moved
 
   piece_cut : (i1 i2 : S) (o1 o2 : K) (optional : Bool) (a : Auditing) (c c' : Cutting) (d : Decoding) (p : Piece) → Handed c (left i1) c' (left i2) (Some p) → c'.begun ≡ true → IsSoundPiece p → PieceCut d a p (output o1 o2)

@@ -174,16 +174,7 @@ under_of sequence rate d t = record {
 
 -- more is held than the buffer takes
 abbrev pub over_of : ℕ → Rate → Due → Removed → FailureRecord
-over_of sequence rate d t = record {
-  sequence = sequence;
-  picture = d.number;
-  bit = d.bit;
-  kind = failures.Over;
-  time = t.time;
-  have = t.have;
-  need = rate.size;
-  wait = 0;
-}
+over_of sequence rate d t = record (under_of sequence rate d t) { kind = failures.Over; need = rate.size; wait = 0 }
 
 abbrev pub with_failure : Report → FailureRecord → Report
 with_failure r f = record r { text = r.text ++ failure_line f; tally = with_failing r.tally }

@@ -141,22 +141,20 @@ impl Report {
     pub fn group(&mut self, g: &GroupRecord) -> Result<(), AllocError>
         ensures { OnOk result (self.new ≡ with_group_line self.old g.now) }
     {
-        if self.pictures {
-            self.lines.group(g)
-        } else {
-            Ok(())
+        if !self.pictures {
+            return Ok(());
         }
+        self.lines.group(g)
     }
 
     /// A picture, where each is told.
     pub fn picture(&mut self, p: &PictureRecord) -> Result<(), AllocError>
         ensures { OnOk result (self.new ≡ with_picture_line self.old p.now) }
     {
-        if self.pictures {
-            self.lines.picture(p)
-        } else {
-            Ok(())
+        if !self.pictures {
+            return Ok(());
         }
+        self.lines.picture(p)
     }
 
     /// A rule is broken.
@@ -215,7 +213,16 @@ impl Report {
         if !self.pictures {
             return Ok(());
         }
-        self.lines.held(&held_of(self.sequence, rate, due, told))
+        self.lines.held(&HeldRecord {
+            sequence: self.sequence,
+            picture: due.number,
+            time: told.time,
+            before: before_of(told),
+            taken: due.bits,
+            after: after_of(told),
+            delay: if rate.constant { told.delay } else { VARIABLE },
+            wait: told.wait,
+        })
     }
 
     /// The picture isn't whole when it is due, where that is so.
@@ -342,22 +349,6 @@ fn finding_of(sequence: u64, b: &Broken) -> Finding
     }
 }
 
-/// What the buffer holds when a picture is removed.
-fn held_of(sequence: u64, rate: &Rate, due: &Due, told: &Removed) -> HeldRecord
-    ensures { result ≡ held_of sequence rate.now due.now told.now }
-{
-    HeldRecord {
-        sequence,
-        picture: due.number,
-        time: told.time,
-        before: before_of(told),
-        taken: due.bits,
-        after: after_of(told),
-        delay: if rate.constant { told.delay } else { VARIABLE },
-        wait: told.wait,
-    }
-}
-
 /// A picture isn't whole when it is due.
 fn under_of(sequence: u64, rate: &Rate, due: &Due, told: &Removed) -> FailureRecord
     ensures { result ≡ under_of sequence rate.now due.now told.now }
@@ -383,13 +374,9 @@ fn over_of(sequence: u64, rate: &Rate, due: &Due, told: &Removed) -> FailureReco
     ensures { result ≡ over_of sequence rate.now due.now told.now }
 {
     FailureRecord {
-        sequence,
-        picture: due.number,
-        bit: due.bit,
         kind: FailureKind::Over,
-        time: told.time,
-        have: u128::from(told.have),
         need: u128::from(rate.size),
         wait: 0,
+        ..under_of(sequence, rate, due, told)
     }
 }

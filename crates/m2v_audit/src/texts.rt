@@ -79,25 +79,26 @@ fn skip<K: Sink>(
     put(lines.bytes(), output)
 }
 
+/// A sequence is counted, and more is asked behind it.
+fn count(asked: &mut Asked, totals: &mut TotalRecord, auditor: &Auditor)
+    ensures totals { totals.new ≡ counted_with totals.old auditor.now }
+    ensures asked { asked.new ≡ asked_behind asked.old auditor.now }
+{
+    *totals = totals.with(auditor);
+    *asked = asked.behind(auditor);
+}
+
 /// A sequence ends with its text.
-fn finish<K: Sink>(
-    asked: &mut Asked,
-    totals: &mut TotalRecord,
-    auditor: &mut Auditor,
-    output: &mut K,
-) -> Result<(), DecodeError>
+fn finish<K: Sink>(auditor: &mut Auditor, output: &mut K) -> Result<(), DecodeError>
     requires output { IsTrue (K.ready output.old) }
     ensures grown { OnOk result (Grows (K.held output.old) (ended auditor.old).report.text
         (K.held output.new)) }
-    ensures totals { OnOk result (totals.new ≡ counted_with totals.old (ended auditor.old)) }
-    ensures asked { OnOk result (asked.new ≡ asked_behind asked.old (ended auditor.old)) }
+    ensures auditor { OnOk result (auditor.new ≡ ended auditor.old) }
     ensures err { IfErr result (Cuts (ended auditor.old).report.text
         (change K.held K.faults output.old output.new)) }
     ensures output { SinkStays K.ready K.name K.faults output.old output.new }
 {
     auditor.finish()?;
-    *totals = totals.with(auditor);
-    *asked = asked.behind(auditor);
     put(auditor.bytes(), output)
 }
 
@@ -105,25 +106,21 @@ fn finish<K: Sink>(
 fn stop<K: Sink>(
     alloc: Global,
     ending: Ending,
-    asked: &mut Asked,
-    totals: &mut TotalRecord,
+    totals: &TotalRecord,
     auditor: &mut Auditor,
     output: &mut K,
 ) -> Result<(), DecodeError>
     requires output { IsTrue (K.ready output.old) }
     ensures grown { OnOk result (Grows (K.held output.old)
-        (stopping_text totals.old auditor.old ending) (K.held output.new)) }
-    ensures totals { OnOk result (totals.new ≡ counted_with totals.old (stopped auditor.old)) }
-    ensures asked { OnOk result (asked.new ≡ asked_behind asked.old (stopped auditor.old)) }
-    ensures err { IfErr result (Cuts (stopping_text totals.old auditor.old ending)
+        (stopping_text totals.now auditor.old ending) (K.held output.new)) }
+    ensures auditor { OnOk result (auditor.new ≡ stopped auditor.old) }
+    ensures err { IfErr result (Cuts (stopping_text totals.now auditor.old ending)
         (change K.held K.faults output.old output.new)) }
     ensures output { SinkStays K.ready K.name K.faults output.old output.new }
 {
     let mut lines = Lines::new(alloc);
     stopping_line(&mut lines, totals.sequences, ending)?;
     auditor.stop()?;
-    *totals = totals.with(auditor);
-    *asked = asked.behind(auditor);
     put(lines.bytes(), output)?;
     put(auditor.bytes(), output)
 }
@@ -168,19 +165,14 @@ fn tell_text<S: Source, K: Sink>(
             Ok(false)
         }
         Ok(false) => {
-            finish(asked, &mut so_far.totals, &mut auditor, output)?;
+            finish(&mut auditor, output)?;
+            count(asked, &mut so_far.totals, &auditor);
             Ok(true)
         }
         Err(e) => {
             let ending = ending_of(e)?;
-            stop(
-                alloc,
-                ending,
-                asked,
-                &mut so_far.totals,
-                &mut auditor,
-                output,
-            )?;
+            stop(alloc, ending, &so_far.totals, &mut auditor, output)?;
+            count(asked, &mut so_far.totals, &auditor);
             so_far.ending = so_far.ending.or(ending);
             Ok(is_fault(ending))
         }

@@ -82,12 +82,10 @@ pub(crate) fn group_record(
 fn type_of(kind: u8) -> PictureType
     ensures { result ≡ type_of kind }
 {
-    if kind == 1 {
-        PictureType::I
-    } else if kind == 2 {
-        PictureType::P
-    } else {
-        PictureType::B
+    match kind {
+        1 => PictureType::I,
+        2 => PictureType::P,
+        _ => PictureType::B,
     }
 }
 
@@ -95,12 +93,10 @@ fn type_of(kind: u8) -> PictureType
 fn structure_of(structure: u8) -> Structure
     ensures { result ≡ structure_of structure }
 {
-    if structure == 1 {
-        Structure::Top
-    } else if structure == 2 {
-        Structure::Bottom
-    } else {
-        Structure::Frame
+    match structure {
+        1 => Structure::Top,
+        2 => Structure::Bottom,
+        _ => Structure::Frame,
     }
 }
 

@@ -15,7 +15,7 @@ use Rattle.m2v_slice.specs.Headers.{profile_of, sequence_of, sequence_extension_
 use Rattle.m2v_slice.proofs.TextLengths.{sequence_extension_length, picture_length}
 use Rattle.m2v_model.specs.Texts.{Calm, ended, IsCalm}
 use Rattle.m2v_model.proofs.Calm.{calm_then, calm_any, calm_one, some_one, calm_end, calm_whole}
-use Rattle.m2v_model.proofs.Headers.{plain}
+use Rattle.m2v_model.specs.Plain.{plain_sequence_extension}
 use Rattle.m2v_enc_stream.proofs.Headers.{plain_is, size_bounds, by_kind}
 
 -- ---- sequences
@@ -62,7 +62,7 @@ sequence_calm s h c =
     (omega (arith, h.bit, h.bits)) (omega arith)))
 
 -- the extension, of each level
-extension_calm : (level : Level) (progressive : Bool) → Calm 22 (sequence_extension_text (plain (profile_of level) progressive)) 6
+extension_calm : (level : Level) (progressive : Bool) → Calm 22 (sequence_extension_text (plain_sequence_extension (profile_of level) progressive)) 6
 unfolding sequence_extension_text rates_text bits_of profile_of
 extension_calm Main true = omega arith
 extension_calm Main false = omega arith

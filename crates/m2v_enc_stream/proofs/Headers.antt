@@ -22,8 +22,9 @@ use Rattle.m2v_slice.specs.Headers.{profile_of, sequence_of, sequence_extension_
 use Rattle.m2v_slice.proofs.Groups.{HasStructure}
 use Rattle.m2v_model.specs.Looking.{number_from}
 use Rattle.m2v_model.specs.Headers.{whole_header, sequence_in, sequence_extension_in, group_in, picture_in, is_structure, f_codes_at, picture_extension_in}
+use Rattle.m2v_model.specs.Plain.{plain_sequence_extension}
 use Rattle.m2v_model.specs.Texts.{ended}
-use Rattle.m2v_model.proofs.Headers.{behind, whole_stands, IdStands, plain, plain_stands, f_codes_stand, coding_stands as coding_shows}
+use Rattle.m2v_model.proofs.Headers.{behind, whole_stands, IdStands, plain_stands, f_codes_stand, coding_stands as coding_shows}
 
 -- ---- sequences
 
@@ -46,22 +47,11 @@ sequence_stands s h c =
     whole_stands sequence_in (sequence_text (sequence_of s)) (sequence_of s) ((sequence_spells (sequence_of s) (sequence_fits s h c)).stands (behind (sequence_text (sequence_of s))))
 
 same_plain : (profile : ℕ) (progressive : Bool) (a b c d : ℕ) → a ≡ 0 → b ≡ 0 → c ≡ 0 → d ≡ 0
-    → record {
-      profile_and_level = profile;
-      progressive_sequence = progressive;
-      chroma_format = 1;
-      horizontal_ext = a;
-      vertical_ext = b;
-      bit_rate_ext = c;
-      vbv_ext = d;
-      low_delay = false;
-      rate_n = 0;
-      rate_d = 0;
-    }
-    ≡ plain profile progressive
+    → record (plain_sequence_extension profile progressive) { horizontal_ext = a; vertical_ext = b; bit_rate_ext = c; vbv_ext = d }
+    ≡ plain_sequence_extension profile progressive
 same_plain profile progressive a b c d ea eb ec ed = rw (ea, eb, ec, ed) refl
 
-pub plain_is : (s : Settings) → InSize s → sequence_extension_of s ≡ plain (profile_of s.level) (is_progressive s.scan)
+pub plain_is : (s : Settings) → InSize s → sequence_extension_of s ≡ plain_sequence_extension (profile_of s.level) (is_progressive s.scan)
 unfolding sequence_extension_of
 plain_is s h =
     same_plain (profile_of s.level) (is_progressive s.scan) _ _ _ _

@@ -22,7 +22,7 @@ use Rattle.m2v_model.specs.declared.state.FirstField.{FirstField}
 use Rattle.m2v_model.specs.declared.state.Open.{Open}
 use Rattle.m2v_model.specs.declared.state.State.{State}
 use Rattle.m2v_model.specs.States as model
-use Rattle.m2v_model.specs.States.{at_first, one_anchor_more, columns_of, rows_of, picture_rows, drops, references_for, with_slice, is_complete, is_second_field_due, has_anchor, is_same_sequence, slice_setup}
+use Rattle.m2v_model.specs.States.{at_first, one_anchor_more, columns_of, rows_of, picture_rows, drops, references_for, begun_open, with_slice, is_complete, is_second_field_due, has_anchor, is_same_sequence, slice_setup}
 use Rattle.m2v_model.specs.Slices.{large_in}
 use Rattle.m2v_model.specs.Streams.{sequence, group, picture, slice, after}
 use Rattle.m2v_enc_stream.specs.Slices.{slice_read, setup_of, AreDecoded}
@@ -80,19 +80,8 @@ rows_by_structure Fields height structure (inr e) = rw e (let f : 2 * ((height +
 
 -- a picture none of whose macroblocks is large, with this row and these macroblocks
 abbrev pub shown_open : PictureInfo → PictureExtension → Bool → List Bool → Bool → ℕ → ℕ → Open
-shown_open info extension second references has row covered = record {
-  info = info;
-  extension = extension;
-  second_field = second;
-  dropped = false;
-  slices_unread = false;
-  references = references;
-  has_slice = has;
-  row = row;
-  covered = covered;
-  large_macroblocks = 0;
-  crowded_row = 0;
-}
+shown_open info extension second references has row covered =
+    record (begun_open info extension second false false references) { has_slice = has; row = row; covered = covered }
 
 pub covered_is : (s : Settings) (job : PictureJob) (delay : ℕ) (references : List Bool) (n : ℕ) → (open_at s job delay references n).covered ≡ n * mb_width_of s
 unfolding open_at
@@ -185,19 +174,7 @@ pub same_state : (s : Settings) (closed : Bool) (a c : ℕ) (w x : Option FirstF
 same_state s closed a c w x o u e f g = rw (e, f, g) refl
 
 same_open : (info : PictureInfo) (extension : PictureExtension) (x y d : Bool) (references : List Bool) (n : ℕ) → x ≡ y → d ≡ false → 0 ≡ n
-    → record {
-      info = info;
-      extension = extension;
-      second_field = x;
-      dropped = d;
-      slices_unread = d;
-      references = references;
-      has_slice = false;
-      row = 0;
-      covered = 0;
-      large_macroblocks = 0;
-      crowded_row = 0;
-    }
+    → begun_open info extension x d d references
     ≡ shown_open info extension y references false 0 n
 same_open info extension x y d references n e f g = rw (e, f, sym g) refl
 

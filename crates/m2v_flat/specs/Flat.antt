@@ -19,70 +19,26 @@ use Rattle.m2v_plane.specs.declared.planes.Plane.{Plane}
 use Rattle.m2v_plane.specs.declared.planes.Plane.TheVariants.{Y, Cb, Cr}
 use Rattle.m2v_plane.specs.Samples.{Samples, sample_of}
 use Rattle.m2v_plane.specs.Raw.{pad}
+use Rattle.m2v_model.specs.Plain.{plain_sequence, plain_sequence_extension, plain_picture, plain_picture_extension}
 use Rattle.m2v_flat.specs.declared.settings.FlatSettings.{FlatSettings}
 use Rattle.m2v_flat.specs.declared.writing.macroblocks.Predictors.{Predictors}
 
 -- ---- headers
 
--- Square samples, 37,500 times 400 bit/s, and a buffer of 112 times 16,384 bits: the most of Main profile at Main level.
--- The sizes fit their 12 bits.
+-- the sizes fit their 12 bits
 abbrev pub flat_sequence : FlatSettings → SequenceInfo
-flat_sequence s = record {
-  horizontal_size = s.dims.width;
-  vertical_size = s.dims.height;
-  aspect = 1;
-  frame_rate_code = s.rate_code;
-  bit_rate = 37500;
-  vbv_buffer_size = 112;
-  constrained = false;
-  load_intra = None;
-  load_non_intra = None;
-}
+flat_sequence s = plain_sequence s.dims.width s.dims.height s.rate_code
 
--- profile_and_level 72 is Main profile at Main level, chroma_format 1 is 4:2:0
+-- 72 is Main profile at Main level
 abbrev pub flat_sequence_extension : SequenceExtension
-flat_sequence_extension = record {
-  profile_and_level = 72;
-  progressive_sequence = true;
-  chroma_format = 1;
-  horizontal_ext = 0;
-  vertical_ext = 0;
-  bit_rate_ext = 0;
-  vbv_ext = 0;
-  low_delay = false;
-  rate_n = 0;
-  rate_d = 0;
-}
+flat_sequence_extension = plain_sequence_extension 72 true
 
--- an I picture that tells no delay; temporal references count modulo 1024
+-- temporal references count modulo 1024
 abbrev pub flat_picture : ℕ → PictureInfo
-flat_picture number = record {
-  temporal_reference = number % 1024;
-  kind = 1;
-  vbv_delay = 65535;
-  full_pel_forward = false;
-  forward_f_code = 0;
-  full_pel_backward = false;
-  backward_f_code = 0;
-}
+flat_picture number = plain_picture (number % 1024)
 
--- a progressive frame without motion: no f_code is used, and each is 15
 abbrev pub flat_picture_extension : PictureExtension
-flat_picture_extension = record {
-  f_code = (15 ∷ 15 ∷ []) ∷ (15 ∷ 15 ∷ []) ∷ [];
-  dc_precision = 0;
-  structure = 3;
-  top_field_first = false;
-  frame_pred_frame_dct = true;
-  concealment = false;
-  q_scale_type = false;
-  intra_vlc_format = false;
-  alternate_scan = false;
-  repeat_first_field = false;
-  chroma_420_type = true;
-  progressive_frame = true;
-  composite = None;
-}
+flat_picture_extension = plain_picture_extension
 
 abbrev pub flat_slice : ℕ → SliceInfo
 flat_slice quantiser = record { quantiser = quantiser; intra_slice = None; reserved = 0 }

@@ -20,7 +20,7 @@ use Rattle.m2v_model.specs.declared.state.Sequence.{Sequence}
 use Rattle.m2v_model.specs.declared.state.Open.{Open}
 use Rattle.m2v_model.specs.declared.state.State.{State}
 use Rattle.m2v_model.specs.declared.setup.SliceSetup.{SliceSetup}
-use Rattle.m2v_model.specs.States.{at_first, after_sequence}
+use Rattle.m2v_model.specs.States.{at_first, begun_open, after_sequence}
 use Rattle.m2v_model.specs.Slices.{Slice}
 use Rattle.m2v_model.specs.Streams.{Part, sequence, picture, slice, ending}
 
@@ -119,19 +119,12 @@ sequence_of s = record { info = flat_sequence s; extension = flat_sequence_exten
 -- the picture number n: whether a slice of it came, the row of the last one, and the address behind it; no macroblock is
 -- large
 abbrev pub flat_open : ℕ → Bool → ℕ → ℕ → Open
-flat_open number has_slice row covered = record {
-  info = flat_picture number;
-  extension = flat_picture_extension;
-  second_field = false;
-  dropped = false;
-  slices_unread = false;
-  references = false ∷ false ∷ false ∷ false ∷ [];
-  has_slice = has_slice;
-  row = row;
-  covered = covered;
-  large_macroblocks = 0;
-  crowded_row = 0;
-}
+flat_open number has_slice row covered =
+    record (begun_open (flat_picture number) flat_picture_extension false false false (false ∷ false ∷ false ∷ false ∷ [])) {
+      has_slice = has_slice;
+      row = row;
+      covered = covered;
+    }
 
 -- the picture number n, of which so many rows were read
 unfoldable pub open_picture : ℕ → ℕ → ℕ → Open

@@ -9,19 +9,19 @@ use Rattle.m2v_model.specs.declared.fault.FaultKind.{FaultKind}
 use Rattle.m2v_model.specs.declared.fault.FaultKind.TheVariants.{FieldPair}
 use Rattle.m2v_model.specs.Units.{Units, cut}
 use Rattle.m2v_model.specs.States.{none_waits}
-use Rattle.m2v_model.specs.Streams.{Sofar, sequence, group, picture, matrices, slice, unread_slice, skipped_unit, ending, over, after}
-use Rattle.m2v_model.specs.Pictures.{Events, pictures_in}
+use Rattle.m2v_model.specs.Streams.{Sofar, Part, after}
+use Rattle.m2v_model.specs.Pictures.{Events, pictures_in, told_by}
 use Rattle.m2v_model.specs.Pieces.{pieces, before_pieces}
 use Rattle.m2v_model.specs.PieceNotes.{PieceNotes, header_pair, notes_of}
 use Rattle.m2v_model.specs.Lawful.{sequences_in}
 use Rattle.m2v_model.specs.Decoding.{Stream, events, frames_of}
-use Rattle.m2v_model.specs.ByPieces.{Between, Course, at_start, read_of, units_read, piece_read, behind, continued, pieces_read, end_of, text_ended, end_read, text_read, IsOne, TellInTurn}
+use Rattle.m2v_model.specs.ByPieces.{Between, Course, at_start, read_of, after_part, units_read, piece_read, behind, continued, pieces_read, end_of, text_ended, end_read, text_read, IsOne, TellInTurn}
 use Rattle.m2v_model.proofs.EventLaws.{pictures_in-append}
 use Rattle.m2v_model.proofs.PieceLaws.{placed, piece_is, by_pieces}
 use Rattle.m2v_model.proofs.TurnLaws.{pictures_in_turn}
 use Rattle.m2v_model.proofs.Unique.{exactly_one}
 use Rattle.m2v_audit.specs.m2v_check.Laws.{Alternates}
-use Rattle.m2v_audit.proofs.m2v_check.Telling.{AtLast, InFront, by_units, first_in, last_in, first-append, AreHeaded, Says, says_on, says_nothing}
+use Rattle.m2v_audit.proofs.m2v_check.Telling.{AtLast, InFront, by_units, of_last, first_in, last_in, first-append, AreHeaded, Says, says_on, says_nothing}
 use Rattle.m2v_audit.proofs.m2v_check.Ordered.{PictureLast}
 use Rattle.m2v_audit.proofs.m2v_check.Onward.{first_stays}
 use Rattle.m2v_audit.proofs.m2v_check.m2v_decode.m2v_dec_rows.UnitGifts.{first_value}
@@ -132,15 +132,9 @@ TellsNothing b us es next = us ≡ [] → b.state.picture ≡ None → (es ≡ [
 
 nothing_last : AtLast TellsNothing
 unfolding after
-nothing_last b us (sequence s) l = absurd l
-nothing_last b us (group g) l = absurd l
-nothing_last b us (picture info extension) l = absurd l
-nothing_last b us (matrices m) l = absurd l
-nothing_last b us (slice row x) l = absurd l
-nothing_last b us (unread_slice row u) l = absurd l
-nothing_last b us (skipped_unit u) l = absurd l
-nothing_last b us ending l = λ none shut. (closed_none b.state.picture b.store shut, refl)
-nothing_last b us over l = λ none shut. (closed_none b.state.picture b.store shut, refl)
+nothing_last b us =
+    of_last (λ (p : Part). TellsNothing b us (told_by b.state b.store p) (after_part b p))
+    (λ none shut. (closed_none b.state.picture b.store shut, refl)) (λ none shut. (closed_none b.state.picture b.store shut, refl))
 
 nothing_front : InFront TellsNothing
 nothing_front b [] mid p es next fits onward ih = absurd onward

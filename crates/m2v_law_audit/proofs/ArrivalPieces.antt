@@ -1,6 +1,5 @@
 -- Of a stream that the verifier calls lawful, with delays that are all exact, nothing is remarked of the arrival of its pictures' bits.
 use Rattle.std.proofs.Common.{◌≡◌, ℕ, ◌+◌, ◌≤◌, Bool, true, false, List, [], ◌∷◌, ◌++◌, length, Option, Some, None, inl, inr, refl, sym, ap, subst, ◌∙◌, le_trans}
-use Rattle.std.specs.Prelude.{slice_get}
 use Rattle.std.specs.List.{AllByRecursion}
 use Rattle.m2v_model.specs.m2v_macroblock.m2v_head.declared.sequence.SequenceInfo.{SequenceInfo}
 use Rattle.m2v_model.specs.m2v_macroblock.m2v_head.declared.sequence.SequenceExtension.{SequenceExtension}
@@ -27,9 +26,8 @@ use Rattle.m2v_audit.specs.declared.auditing.Auditing.{Auditing}
 use Rattle.m2v_audit.specs.declared.headers.PieceHeader.{PieceHeader}
 use Rattle.m2v_audit.specs.declared.headers.PieceHeader.TheVariants as headers
 use Rattle.m2v_audit.specs.Account.{Account}
-use Rattle.m2v_audit.specs.Auditing.{nothing, longer, begun, with_header, with_headers, sequences_of, coded, counted, with_told, with_note, with_coded, with_others, pictured, with_ending, settled_by, fronted, after_piece}
+use Rattle.m2v_audit.specs.Auditing.{nothing, longer, begun, with_headers, coded, counted, with_told, with_note, with_coded, pictured, fronted}
 use Rattle.m2v_audit.specs.Front.{front_of}
-use Rattle.m2v_audit.specs.Others.{others_of}
 use Rattle.m2v_audit.specs.Opening.{has_account}
 use Rattle.m2v_audit.specs.Times.{Times, opened, time_of, after}
 use Rattle.m2v_audit.proofs.Beginning.{can_begin}
@@ -38,9 +36,9 @@ use Rattle.m2v_audit.proofs.m2v_check.Onward.{none_or_one}
 use Rattle.m2v_law_audit.specs.Found.{all_along}
 use Rattle.m2v_law_audit.specs.Sequences.{first_byte}
 use Rattle.m2v_law_audit.specs.Accounts.{coded_at, numbered_in, IsOnceAmong}
-use Rattle.m2v_law_audit.proofs.PartsKept.{Untouched, placing}
+use Rattle.m2v_law_audit.proofs.PartsKept.{Untouched, headers_keep, piece_leaves, placing}
 use Rattle.m2v_law_audit.proofs.AccountDues.{EndsSo, few_numbered, all_end}
-use Rattle.m2v_law_audit.proofs.AccountReading.{Turns, in_pieces, begun_at, behind_piece, one_piece, first_header, first_begun, few_pictures}
+use Rattle.m2v_law_audit.proofs.AccountReading.{Turn, Turns, in_pieces, begun_at, behind_piece, one_piece, first_header, first_begun, few_pictures}
 use Rattle.m2v_law_audit.proofs.EventsFront.{Fronts}
 use Rattle.m2v_law_audit.proofs.EventsPieces.{BeginWith, text_begins}
 use Rattle.m2v_law_audit.proofs.RemovalEvents.{note_at, rest_one, none_left, first_so}
@@ -53,31 +51,15 @@ use Rattle.m2v_law_audit.proofs.ArrivalAccounts.{arrived_at, AllArrive, AllFit, 
 
 -- ---- the picture before stays through headers, and through a piece without a picture
 
-with_one : (a : Auditing) (h : PieceHeader) (s : Option (SequenceInfo × SequenceExtension)) → (with_header a h s).arrival ≡ a.arrival
-unfolding with_header
-with_one a (headers.Sequence bit) None = refl
-with_one a (headers.Sequence bit) (Some s) = refl
-with_one a (headers.Group bit g) s = refl
-
 with_all : (a : Auditing) (ss : List (SequenceInfo × SequenceExtension)) (k : ℕ) (hs : List PieceHeader)
     → (with_headers a ss k hs).arrival ≡ a.arrival
-unfolding with_headers
-with_all a ss k [] = refl
-with_all a ss k (h ∷ hs) = with_all (with_header a h (slice_get ss k)) ss (k + sequences_of h) hs ∙ with_one a h (slice_get ss k)
-
-stays_settled : (a : Auditing) (x : Option Account) → (settled_by a x).arrival ≡ a.arrival
-stays_settled a None = refl
-stays_settled a (Some x) = refl
+with_all = headers_keep (λ (x : Auditing). x.arrival) (λ a bit s. refl) (λ a bit g. refl)
 
 -- behind a piece is kept what its picture leaves
 behind_pictured : (a : Auditing) (at : ℕ) (p : List ℕ) (es : Events) →
     let c = fronted (longer (length p) a) at p (notes_of at p es) in
     (behind_piece a at p es).arrival ≡ (pictured c at (length p) (zeros_last p) (notes_of at p es).picture).arrival
-unfolding after_piece
-behind_pictured a at p es =
-    let c = fronted (longer (length p) a) at p (notes_of at p es) in
-    let d = pictured c at (length p) (zeros_last p) (notes_of at p es).picture in
-    stays_settled (with_ending at p (with_others c.pictures (others_of at p) d)) d.account
+behind_pictured a at p es = piece_leaves (λ (x : Auditing). x.arrival) (λ a r d last x. refl) a at p (notes_of at p es)
 
 -- ---- a picture
 
@@ -142,6 +124,15 @@ none_later : (a : Auditing) (b : Between) (at : ℕ) (ps : List (List ℕ)) → 
 unfolding all_along
 none_later a b at ps e = ap (all_arrivals a b at) e
 
+-- a piece without a picture, behind which nothing comes
+quiet_piece : (a : Auditing) (b : Between) (at : ℕ) (p : List ℕ) (ps : List (List ℕ)) (es : Events) (u : Turn b p ps es)
+    → Turns u.next ps u.rest → pictures_in u.own ≡ [] → all_arrivals a b at (p ∷ ps) ≡ []
+quiet_piece a b at p ps es u turns none =
+    let left = none_left (length (pictures_in u.own)) u.next ps u.rest (ap length none) u.one turns in
+    let here = none_here a at p u.own none in
+    let rest = none_later (behind_piece a at p u.own) u.next (at + length p) ps left.0 in
+    one_piece piece_arrivals (λ z. []) a b at p ps es u ∙ (λ i. here i ++ rest i)
+
 -- ---- pieces behind a picture
 
 arrivals_from : (ps : List (List ℕ)) (b : Between) (es : Events) (a : Auditing) (at : ℕ) (f : Sequence) (o : Option Sequence) (k : ℕ)
@@ -159,11 +150,7 @@ arrivals_from (p ∷ ps) b es a at f o k t x d group first_in_group frames turns
     ap (λ (z : Option Sequence). (begun z (longer (length p) a) at (notes_of at p u.own)).arrival) h.first_is ∙ kept in
     let stays : u.next.state.sequence ≡ last_in o u.own = u.sequence ∙ ap (λ (z : Option Sequence). last_in z u.own) so in
     elim (none_or_one u.own u.last) [
-      | inl none ↦
-          let left = none_left (length (pictures_in u.own)) u.next ps u.rest (ap length none) u.one turns.1 in
-          let here = none_here a at p u.own none in
-          let rest = none_later c u.next end ps left.0 in
-          one_piece piece_arrivals (λ z. []) a b at p ps es u ∙ (λ i. here i ++ rest i)
+      | inl none ↦ quiet_piece a b at p ps es u turns.1 none
       | inr one ↦
           let r = rest_one o group first_in_group k frames u.own u.rest one.0 u.last (subst (λ (z : Option Sequence). AreHeaded z u.own) so u.headed) one.1 in
           let n = r.first in
@@ -201,11 +188,7 @@ arrivals_all (p ∷ ps) es asked number start at begins turns all =
     let end = at + length p in
     let c = behind_piece a at p u.own in
     elim (none_or_one u.own u.last) [
-      | inl none ↦
-          let left = none_left (length (pictures_in u.own)) u.next ps u.rest (ap length none) u.one turns.1 in
-          let here = none_here a at p u.own none in
-          let rest = none_later c u.next end ps left.0 in
-          one_piece piece_arrivals (λ z. []) a at_start at p ps es u ∙ (λ i. here i ++ rest i)
+      | inl none ↦ quiet_piece a at_start at p ps es u turns.1 none
       | inr one ↦
           let g = first_so u.own u.rest es one.0 (first_header at p u.own begins (u.fronts at)) u.are u.last u.headed one.1 in
           let r = g.one in

@@ -62,47 +62,22 @@ one_used picture false bs h = tt
 of_first : (picture : ℕ) (f : Sequence → Breaches) (s : Sequence) → AreOf picture (f s) → AreOf picture (flat_map f (s ∷ []))
 of_first picture f s h = both picture (f s) [] h tt
 
-level_of : (picture : ℕ) (s : Sequence) → AreOf picture (level_rule s)
-unfolding level_rule
-level_of picture s = one_judged picture _ _ (refl, refl)
-
-width_of : (picture : ℕ) (s : Sequence) → AreOf picture (width_rule s)
-unfolding width_rule
-width_of picture s = one_judged picture _ _ (refl, refl)
-
-height_of : (picture : ℕ) (s : Sequence) → AreOf picture (height_rule s)
-unfolding height_rule
-height_of picture s = one_judged picture _ _ (refl, refl)
+-- a number of a header that lies between two others
+bounded : (picture rule have low high : ℕ) → nat_le rule 7 ≡ true → nat_le rule 15 ≡ true → AreOf picture (within rule 0 have low high)
+bounded picture rule have low high early looked =
+    let own : (if nat_le rule 7 then 0 else picture) ≡ 0 = rw early refl in
+    one_within picture (nat_lt have low) (breach rule 0 have low) (at_most rule 0 have high) (own, looked) (one_judged picture _ _ (own, looked))
 
 frame_rate_of : (picture : ℕ) (s : Sequence) → AreOf picture (frame_rate_rule s)
 unfolding frame_rate_rule
 frame_rate_of picture s =
     let code = s.info.frame_rate_code in
-    let most = (limits_in s).codes in
     let change = 32 * s.extension.rate_n + s.extension.rate_d in
-    both picture (within 4 0 code 1 most) (at_most 4 0 change 0)
-    (one_within picture (nat_lt code 1) (breach 4 0 code 1) (at_most 4 0 code most) (refl, refl) (one_judged picture _ _ (refl, refl)))
+    both picture (within 4 0 code 1 (limits_in s).codes) (at_most 4 0 change 0) (bounded picture 4 code 1 (limits_in s).codes refl refl)
     (one_judged picture (nat_le change 0) (breach 4 0 change 0) (refl, refl))
 
-luma_of : (picture : ℕ) (s : Sequence) → AreOf picture (luma_rule s)
-unfolding luma_rule
-luma_of picture s = one_judged picture _ _ (refl, refl)
-
-bits_of : (picture : ℕ) (s : Sequence) → AreOf picture (rate_rule s)
-unfolding rate_rule
-bits_of picture s =
-    let rate = rate_of s in
-    one_within picture (nat_lt rate 1) (breach 6 0 rate 1) (at_most 6 0 rate (limits_in s).bits) (refl, refl)
-    (one_judged picture _ _ (refl, refl))
-
-held_of : (picture : ℕ) (s : Sequence) → AreOf picture (buffer_rule s)
-unfolding buffer_rule
-held_of picture s =
-    let size = buffer_of s in
-    one_within picture (nat_lt size 1) (breach 7 0 size 1) (at_most 7 0 size (limits_in s).buffer) (refl, refl)
-    (one_judged picture _ _ (refl, refl))
-
 pub header_of : (picture : ℕ) (s : Sequence) → AreOf picture (sequence_breaches (s ∷ []))
+unfolding level_rule width_rule height_rule luma_rule rate_rule buffer_rule
 header_of picture s =
     let ss : List Sequence = s ∷ [] in
     let a : Breaches = flat_map level_rule ss in
@@ -116,11 +91,11 @@ header_of picture s =
     (both picture (a ++ b ++ c ++ d ++ e) f
     (both picture (a ++ b ++ c ++ d) e
     (both picture (a ++ b ++ c) d
-    (both picture (a ++ b) c (both picture a b (of_first picture level_rule s (level_of picture s)) (of_first picture width_rule s (width_of picture s))) (of_first picture height_rule s (height_of picture s)))
+    (both picture (a ++ b) c (both picture a b (of_first picture level_rule s (one_judged picture _ _ (refl, refl))) (of_first picture width_rule s (one_judged picture _ _ (refl, refl)))) (of_first picture height_rule s (one_judged picture _ _ (refl, refl))))
     (of_first picture frame_rate_rule s (frame_rate_of picture s)))
-    (of_first picture luma_rule s (luma_of picture s)))
-    (of_first picture rate_rule s (bits_of picture s)))
-    (of_first picture buffer_rule s (held_of picture s))
+    (of_first picture luma_rule s (one_judged picture _ _ (refl, refl))))
+    (of_first picture rate_rule s (bounded picture 6 (rate_of s) 1 (limits_in s).bits refl refl)))
+    (of_first picture buffer_rule s (bounded picture 7 (buffer_of s) 1 (limits_in s).buffer refl refl))
 
 codes_of : (rule component : ℕ) (limit : Numbered → ℕ) (n : Numbered) → nat_le rule 7 ≡ false → nat_le rule 15 ≡ true
     → AreOf n.number (f_code_rule rule component limit n)
@@ -142,31 +117,11 @@ vertical_of : (n : Numbered) → AreOf n.number (vertical_rule n)
 unfolding vertical_rule
 vertical_of n = codes_of 9 1 (λ m. if is_frame m.picture.extension then 5 else 4) n refl refl
 
-intra_of : (n : Numbered) → AreOf n.number (intra_rule n)
-unfolding intra_rule
-intra_of n = one_judged n.number _ _ (refl, refl)
-
-crowd_of : (n : Numbered) → AreOf n.number (crowd_rule n)
-unfolding crowd_rule
-crowd_of n = one_judged n.number _ _ (refl, refl)
-
-repeat_of : (c : Bool) (n : Numbered) → AreOf n.number (repeat_rule c n)
-unfolding repeat_rule
-repeat_of c n = one_judged n.number _ _ (refl, refl)
-
-progressive_of : (n : Numbered) → AreOf n.number (progressive_rule n)
-unfolding progressive_rule
-progressive_of n = one_judged n.number _ _ (refl, refl)
-
-precision_of : (n : Numbered) → AreOf n.number (precision_rule n)
-unfolding precision_rule
-precision_of n = one_judged n.number _ _ (refl, refl)
-
 pub others_of : (c : Bool) (n : Numbered) → AreOf n.number (other_rules c n)
-unfolding other_rules
+unfolding other_rules intra_rule crowd_rule repeat_rule progressive_rule precision_rule
 others_of c n =
     both n.number (horizontal_rule n ++ vertical_rule n ++ intra_rule n) (crowd_rule n ++ repeat_rule c n ++ progressive_rule n ++ precision_rule n)
-    (both n.number (horizontal_rule n ++ vertical_rule n) (intra_rule n) (both n.number (horizontal_rule n) (vertical_rule n) (horizontal_of n) (vertical_of n)) (intra_of n))
+    (both n.number (horizontal_rule n ++ vertical_rule n) (intra_rule n) (both n.number (horizontal_rule n) (vertical_rule n) (horizontal_of n) (vertical_of n)) (one_judged n.number _ _ (refl, refl)))
     (both n.number (crowd_rule n ++ repeat_rule c n ++ progressive_rule n) (precision_rule n)
-    (both n.number (crowd_rule n ++ repeat_rule c n) (progressive_rule n) (both n.number (crowd_rule n) (repeat_rule c n) (crowd_of n) (repeat_of c n)) (progressive_of n))
-    (precision_of n))
+    (both n.number (crowd_rule n ++ repeat_rule c n) (progressive_rule n) (both n.number (crowd_rule n) (repeat_rule c n) (one_judged n.number _ _ (refl, refl)) (one_judged n.number _ _ (refl, refl))) (one_judged n.number _ _ (refl, refl)))
+    (one_judged n.number _ _ (refl, refl)))

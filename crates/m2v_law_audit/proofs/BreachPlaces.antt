@@ -219,76 +219,83 @@ module _ (asks : Breach → Bool) where
               (one_more done later n bit g f waits o t j eg ef none ∙ omega (arith, free));
         }
 
-    -- a frame that is shown at once
-    with_shown : (done : List Numbered) (n : Numbered) (bit g f : ℕ) (waits : Bool) (o : Places) (t : ℕ) → Counted done g f waits o t → n.group ≡ g → n.frame ≡ f → n.picture.ends_frame ≡ true
-        → (low || is_b n.picture.info.kind) ≡ true
-        → Counted (done ++ n ∷ []) g (f + 1) false (with_frame o (waits_as bit n) (is_b n.picture.info.kind)) (t + many asks (other_rules c n) + many asks (place_breaches (told_with_frame o (waits_as bit n) (is_b n.picture.info.kind))))
-    with_shown done n bit g f waits o t j eg ef on e =
-        let fs = frames_of_group g done in
-        let xs = shown_by low fs in
-        let kind = n.picture.info.kind in
-        let p = waits_as bit n in
-        let own : (o.low_delay || is_b kind) ≡ true = ap (λ (b : Bool). b || is_b kind) (j.alike.low ∙ j.judged.low_is) ∙ e in
-        let is = once_is o p (is_b kind) own in
-        let told : told_with_frame o p (is_b kind) ≡ frame_misplaced (frame_of o p) o.shown = rw own refl in
-        let count : many asks (place_breaches (told_with_frame o p (is_b kind))) ≡ field_at o.begun o.shown + at_place p o.shown = ap (λ ms. many asks (place_breaches ms)) told ∙ frame_told (frame_of o p) o.shown in
-        let w : waits_by low (frames_of_group g (done ++ n ∷ [])) ≡ waits_by low fs = ap (waits_by low) (frames_last g done n f eg ef on) ∙ once_waits low fs f kind e in
-        record {
-          checked = frame_checked j.checked (unplaced c n) (is_b kind);
-          judged = shown_checked low c done n g f waits j.checked j.judged eg ef on e;
-          alike = alike_frame o j.checked p (unplaced c n) (is_b kind) j.alike;
-          alone = λ a. ap (λ (x : Places). x.begun) is;
-          says = λ later none.
-              let P = Place low g (done ++ n ∷ later) in
-              let order = once_order low fs (frames_of_group g later) f kind e in
-              let place : P f ≡ o.shown =
-              ap (λ (l : Frames). display_place f (Order low l)) (frames_more g done later n f eg ef on) ∙ place_is low f (fs ++ (f, kind) ∷ frames_of_group g later) ∙ ap (place_in f) order.1
-              ∙ place_here f xs order.0 (absent_below f xs j.judged.below) ∙ sym (j.alike.shown ∙ j.judged.shown_is) in
-              let field = ap (field_at o.begun) place in
-              let last = ap (at_place p) place in
-              said done later n g (f + 1) (with_frame o p (is_b kind)) _ (waits_by low fs) _ w
-              (subst (λ (x : Places). Says (done ++ n ∷ []) g (f + 1) x (waits_by low fs) (t + many asks (other_rules c n) + many asks (place_breaches (told_with_frame o p (is_b kind)))) (done ++ n ∷ later)) (sym is)
-              (one_more done later n bit g f waits o t j eg ef none ∙ omega (arith, count, field, last)));
-        }
+    -- a frame: what is left of the places is so, and this is the frame that waits
+    module _ (done : List Numbered) (n : Numbered) (bit g f : ℕ) (waits : Bool) (o : Places) (t : ℕ) (j : Counted done g f waits o t)
+        (eg : n.group ≡ g) (ef : n.frame ≡ f) (on : n.picture.ends_frame ≡ true) where
+      abbrev pub fs : Frames
+      fs = frames_of_group g done
 
-    -- an anchor, which waits
-    with_anchor : (done : List Numbered) (n : Numbered) (bit g f : ℕ) (waits : Bool) (o : Places) (t : ℕ) → Counted done g f waits o t → n.group ≡ g → n.frame ≡ f → n.picture.ends_frame ≡ true
-        → (low || is_b n.picture.info.kind) ≡ false
-        → Counted (done ++ n ∷ []) g (f + 1) false (with_frame o (waits_as bit n) (is_b n.picture.info.kind)) (t + many asks (other_rules c n) + many asks (place_breaches (told_with_frame o (waits_as bit n) (is_b n.picture.info.kind))))
-    with_anchor done n bit g f waits o t j eg ef on e =
-        let fs = frames_of_group g done in
-        let xs = shown_by low fs in
-        let ws = waits_by low fs in
-        let kind = n.picture.info.kind in
-        let p = waits_as bit n in
-        let own : (o.low_delay || is_b kind) ≡ false = ap (λ (b : Bool). b || is_b kind) (j.alike.low ∙ j.judged.low_is) ∙ e in
-        let is = later_is o p (is_b kind) own in
-        let told : told_with_frame o p (is_b kind) ≡ anchor_misplaced o.anchor o.shown = rw own refl in
-        let count : many asks (place_breaches (told_with_frame o p (is_b kind))) ≡ anchor_now o.anchor o.shown = ap (λ ms. many asks (place_breaches ms)) told ∙ anchor_told o.anchor o.shown in
-        let w : waits_by low (frames_of_group g (done ++ n ∷ [])) ≡ Some f = ap (waits_by low) (frames_last g done n f eg ef on) ∙ later_waits low fs f kind e in
-        record {
-          checked = frame_checked j.checked (unplaced c n) (is_b kind);
-          judged = anchor_checked low c done n g f waits j.checked j.judged eg ef on e;
-          alike = alike_frame o j.checked p (unplaced c n) (is_b kind) j.alike;
-          alone = λ a. ap (λ (x : Places). x.begun) is;
-          says = λ later none.
-              let P = Place low g (done ++ n ∷ later) in
-              let rest = fs ++ (f, kind) ∷ frames_of_group g later in
-              let place : (x : ℕ) → P x ≡ place_in x (shown_by low rest ++ option_to_list (waits_by low rest)) =
-              λ x. ap (λ (l : Frames). display_place x (Order low l)) (frames_more g done later n f eg ef on) ∙ place_is low x rest in
-              let anchor : anchor_at o.anchor ws P ≡ anchor_now o.anchor o.shown =
-              anchor_is o.anchor j.checked.anchor ws P o.shown j.alike.waiting j.judged.anchor_is (λ x is_x.
-              let order = later_order low fs (frames_of_group g later) f kind x e is_x in
-              place x ∙ ap (place_in x) order.1 ∙ place_here x xs order.0 (subst (λ (v : Option ℕ). AnchorAbsent v xs) is_x j.judged.absent) ∙ sym (j.alike.shown ∙ j.judged.shown_is)) in
-              said done later n g (f + 1) (with_frame o p (is_b kind)) _ (Some f) _ w
-              (subst (λ (x : Places). Says (done ++ n ∷ []) g (f + 1) x (Some f) (t + many asks (other_rules c n) + many asks (place_breaches (told_with_frame o p (is_b kind)))) (done ++ n ∷ later)) (sym is)
-              (one_more done later n bit g f waits o t j eg ef none ∙ omega (arith, count, anchor)));
-        }
+      abbrev pub xs : List ℕ
+      xs = shown_by low fs
 
-    -- a frame
-    pub with_whole : (done : List Numbered) (n : Numbered) (bit g f : ℕ) (waits : Bool) (o : Places) (t : ℕ) → Counted done g f waits o t → n.group ≡ g → n.frame ≡ f → n.picture.ends_frame ≡ true
-        → Counted (done ++ n ∷ []) g (f + 1) false (with_frame o (waits_as bit n) (is_b n.picture.info.kind)) (t + many asks (other_rules c n) + many asks (place_breaches (told_with_frame o (waits_as bit n) (is_b n.picture.info.kind))))
-    with_whole done n bit g f waits o t j eg ef on = elim (cases_Bool (low || is_b n.picture.info.kind)) [
-      | inl e ↦ with_shown done n bit g f waits o t j eg ef on e
-      | inr e ↦ with_anchor done n bit g f waits o t j eg ef on e
-    ]
+      abbrev pub kind : ℕ
+      kind = n.picture.info.kind
+
+      abbrev pub p : Waiting
+      p = waits_as bit n
+
+      -- what was told with it
+      abbrev pub told : ℕ
+      told = t + many asks (other_rules c n) + many asks (place_breaches (told_with_frame o p (is_b kind)))
+
+      abbrev pub Whole : Type 0
+      Whole = Counted (done ++ n ∷ []) g (f + 1) false (with_frame o p (is_b kind)) told
+
+      whole_as : (left : Places) (w : Option ℕ) → with_frame o p (is_b kind) ≡ left → left.begun ≡ None
+          → waits_by low (frames_of_group g (done ++ n ∷ [])) ≡ w
+          → Judged low c (done ++ n ∷ []) g (f + 1) false (frame_checked j.checked (unplaced c n) (is_b kind))
+          → ((later : List Numbered) → NoEarlier g later → Says (done ++ n ∷ []) g (f + 1) left w told (done ++ n ∷ later)) → Whole
+      whole_as left w is alone now judged says = record {
+        checked = frame_checked j.checked (unplaced c n) (is_b kind);
+        judged = judged;
+        alike = alike_frame o j.checked p (unplaced c n) (is_b kind) j.alike;
+        alone = λ a. ap (λ (x : Places). x.begun) is ∙ alone;
+        says = λ later none.
+            said done later n g (f + 1) (with_frame o p (is_b kind)) _ w _ now
+            (subst (λ (x : Places). Says (done ++ n ∷ []) g (f + 1) x w told (done ++ n ∷ later)) (sym is) (says later none));
+      }
+
+      own_order : (b : Bool) → (low || is_b kind) ≡ b → (o.low_delay || is_b kind) ≡ b
+      own_order b e = ap (λ (x : Bool). x || is_b kind) (j.alike.low ∙ j.judged.low_is) ∙ e
+
+      -- it is shown at once
+      with_shown : (low || is_b kind) ≡ true → Whole
+      with_shown e =
+          let own = own_order true e in
+          let misplaced : told_with_frame o p (is_b kind) ≡ frame_misplaced (frame_of o p) o.shown = rw own refl in
+          let count : many asks (place_breaches (told_with_frame o p (is_b kind))) ≡ field_at o.begun o.shown + at_place p o.shown = ap (λ ms. many asks (place_breaches ms)) misplaced ∙ frame_told (frame_of o p) o.shown in
+          whole_as _ (waits_by low fs) (once_is o p (is_b kind) own) refl
+          (ap (waits_by low) (frames_last g done n f eg ef on) ∙ once_waits low fs f kind e)
+          (shown_checked low c done n g f waits j.checked j.judged eg ef on e)
+          (λ later none.
+          let order = once_order low fs (frames_of_group g later) f kind e in
+          let place : Place low g (done ++ n ∷ later) f ≡ o.shown =
+          ap (λ (l : Frames). display_place f (Order low l)) (frames_more g done later n f eg ef on) ∙ place_is low f (fs ++ (f, kind) ∷ frames_of_group g later) ∙ ap (place_in f) order.1
+          ∙ place_here f xs order.0 (absent_below f xs j.judged.below) ∙ sym (j.alike.shown ∙ j.judged.shown_is) in
+          let field = ap (field_at o.begun) place in
+          let last = ap (at_place p) place in
+          one_more done later n bit g f waits o t j eg ef none ∙ omega (arith, count, field, last))
+
+      -- an anchor waits
+      with_anchor : (low || is_b kind) ≡ false → Whole
+      with_anchor e =
+          let ws = waits_by low fs in
+          let own = own_order false e in
+          let misplaced : told_with_frame o p (is_b kind) ≡ anchor_misplaced o.anchor o.shown = rw own refl in
+          let count : many asks (place_breaches (told_with_frame o p (is_b kind))) ≡ anchor_now o.anchor o.shown = ap (λ ms. many asks (place_breaches ms)) misplaced ∙ anchor_told o.anchor o.shown in
+          whole_as _ (Some f) (later_is o p (is_b kind) own) refl
+          (ap (waits_by low) (frames_last g done n f eg ef on) ∙ later_waits low fs f kind e)
+          (anchor_checked low c done n g f waits j.checked j.judged eg ef on e)
+          (λ later none.
+          let P = Place low g (done ++ n ∷ later) in
+          let rest = fs ++ (f, kind) ∷ frames_of_group g later in
+          let place : (x : ℕ) → P x ≡ place_in x (shown_by low rest ++ option_to_list (waits_by low rest)) =
+          λ x. ap (λ (l : Frames). display_place x (Order low l)) (frames_more g done later n f eg ef on) ∙ place_is low x rest in
+          let anchor : anchor_at o.anchor ws P ≡ anchor_now o.anchor o.shown =
+          anchor_is o.anchor j.checked.anchor ws P o.shown j.alike.waiting j.judged.anchor_is (λ x is_x.
+          let order = later_order low fs (frames_of_group g later) f kind x e is_x in
+          place x ∙ ap (place_in x) order.1 ∙ place_here x xs order.0 (subst (λ (v : Option ℕ). AnchorAbsent v xs) is_x j.judged.absent) ∙ sym (j.alike.shown ∙ j.judged.shown_is)) in
+          one_more done later n bit g f waits o t j eg ef none ∙ omega (arith, count, anchor))
+
+      pub with_whole : Whole
+      with_whole = elim (cases_Bool (low || is_b kind)) [ inl e ↦ with_shown e | inr e ↦ with_anchor e ]

@@ -6,7 +6,6 @@ use Rattle.std.proofs.ByRecursion.{All-append}
 use Rattle.std.proofs.lemmas.List.Elements.{filter-append}
 use Rattle.m2v_model.specs.m2v_macroblock.m2v_head.declared.group.GroupInfo.{GroupInfo}
 use Rattle.m2v_model.specs.m2v_macroblock.m2v_head.declared.picture.PictureInfo.{PictureInfo}
-use Rattle.m2v_model.specs.m2v_macroblock.m2v_head.declared.picture.PictureExtension.{PictureExtension}
 use Rattle.m2v_model.specs.declared.state.Sequence.{Sequence}
 use Rattle.m2v_model.specs.States.{is_frame}
 use Rattle.m2v_audit.specs.m2v_check.declared.coded.CodedPicture.{CodedPicture}
@@ -22,7 +21,7 @@ use Rattle.m2v_audit.specs.m2v_strict.declared.runs.Runs.{Runs}
 use Rattle.m2v_audit.specs.m2v_strict.Remarks.{Remarks, is_warning, judge, looked_at, unset, within}
 use Rattle.m2v_audit.specs.m2v_strict.SequenceRules.{coded_luma_rule, aspect_rule, constrained_rule, first_number_rule, header_rule, extension_rule, aspect_warning, size_warning, height_warning, level_remarks, sequence_warnings}
 use Rattle.m2v_audit.specs.m2v_strict.GroupRules.{time_code_rule, drop_rule, passing_rule, broken_link_warning, group_remarks}
-use Rattle.m2v_audit.specs.m2v_strict.PictureRules.{low_delay_rule, delay_rule, f_code_rule, full_pel_rule, is_judged, field_rule, prediction_rule, top_first_rule, interlaced_rule, repeat_by_rate_rule, chroma_rule, dropped_warning, b_repeat_warning, frame_remarks}
+use Rattle.m2v_audit.specs.m2v_strict.PictureRules.{low_delay_rule, delay_rule, f_code_rule, full_pel_rule, is_judged, field_rule, prediction_rule, top_first_rule, interlaced_rule, repeat_by_rate_rule, chroma_rule, dropped_warning, b_repeat_warning, delay_remarks, frame_remarks, picture_warnings}
 use Rattle.m2v_audit.specs.m2v_strict.DvdRules.{size_rule, format_rule, form_warning, wide_warning, dvd_remarks, like_warning, headed_warning}
 use Rattle.m2v_audit.specs.m2v_strict.DvdRules.{fields_rule, b_frames_warning, first_group_warning, dvd_picture_remarks}
 use Rattle.m2v_audit.specs.m2v_strict.BroadcastRules.{dvb_rate_rule, dvb_size_rule, dvb_aspect_rule, dvb_remarks}
@@ -77,25 +76,16 @@ bounded rule element have low high e = chosen _ _ _ (one e) (judged _ _ e)
 
 -- ---- a sequence header
 
-coded_luma_is : (s : Sequence) → AreStricter (coded_luma_rule s)
-unfolding coded_luma_rule
-coded_luma_is s = looked _ _ (judged _ _ refl)
-
-aspect_is : (s : Sequence) → AreStricter (aspect_rule s)
-unfolding aspect_rule
-aspect_is s = chosen _ _ _ (one refl) (judged _ _ refl)
-
-constrained_is : (s : Sequence) → AreStricter (constrained_rule s)
-unfolding constrained_rule
-constrained_is s = judged _ _ refl
-
 pub first_number_is : (matrix : Option (List ℕ)) → AreStricter (first_number_rule matrix)
 unfolding first_number_rule
 first_number_is None = none
 first_number_is (Some numbers) = judged _ _ refl
 
 level_are : (s : Sequence) → AreStricter (level_remarks s)
-level_are s = both (both (both (coded_luma_is s) (aspect_is s)) (constrained_is s)) (first_number_is s.info.load_intra)
+unfolding coded_luma_rule aspect_rule constrained_rule
+level_are s =
+    both (both (both (looked _ _ (judged _ _ refl)) (chosen _ _ _ (one refl) (judged _ _ refl))) (judged _ _ refl))
+    (first_number_is s.info.load_intra)
 
 header_are : (first s : Sequence) → AreStricter (header_rule first s)
 unfolding header_rule
@@ -105,41 +95,22 @@ extension_are : (first s : Sequence) → AreStricter (extension_rule first s)
 unfolding extension_rule
 extension_are first s = both (both (both (judged _ _ refl) (judged _ _ refl)) (judged _ _ refl)) (judged _ _ refl)
 
-aspect_warned : (rules : RuleSet) (s : Sequence) → AreStricter (aspect_warning rules s)
-unfolding aspect_warning
-aspect_warned rules s = looked _ _ (judged _ _ refl)
-
-size_warned : (s : Sequence) → AreStricter (size_warning s)
-unfolding size_warning
-size_warned s = both (judged _ _ refl) (judged _ _ refl)
-
-height_warned : (s : Sequence) → AreStricter (height_warning s)
-unfolding height_warning
-height_warned s = looked _ _ (judged _ _ refl)
-
 warned_are : (rules : RuleSet) (s : Sequence) → AreStricter (sequence_warnings rules s)
-warned_are rules s = both (both (aspect_warned rules s) (size_warned s)) (height_warned s)
+unfolding aspect_warning size_warning height_warning
+warned_are rules s = both (both (looked _ _ (judged _ _ refl)) (both (judged _ _ refl) (judged _ _ refl))) (looked _ _ (judged _ _ refl))
 
 -- ---- a group header
-
-time_code_is : (g : GroupInfo) → AreStricter (time_code_rule g)
-unfolding time_code_rule
-time_code_is g = both (both (both (judged _ _ refl) (judged _ _ refl)) (judged _ _ refl)) (judged _ _ refl)
-
-drop_is : (code : ℕ) (g : GroupInfo) → AreStricter (drop_rule code g)
-unfolding drop_rule
-drop_is code g = looked _ _ (judged _ _ refl)
-
-passing_is : (g : GroupInfo) → AreStricter (passing_rule g)
-unfolding passing_rule
-passing_is g = judged _ _ refl
 
 broken_link_is : (g : GroupInfo) → AreStricter (broken_link_warning g)
 unfolding broken_link_warning
 broken_link_is g = judged _ _ refl
 
 group_are : (code : ℕ) (g : GroupInfo) → AreStricter (group_remarks code g)
-group_are code g = both (both (time_code_is g) (drop_is code g)) (passing_is g)
+unfolding time_code_rule drop_rule passing_rule
+group_are code g =
+    both
+    (both (both (both (both (judged _ _ refl) (judged _ _ refl)) (judged _ _ refl)) (judged _ _ refl)) (looked _ _ (judged _ _ refl)))
+    (judged _ _ refl)
 
 pictures_is : (rate : ℕ) (g : GroupInfo) → AreStricter (pictures_warning rate g)
 unfolding pictures_warning
@@ -156,13 +127,9 @@ times_are code last fields g = looked _ _ (both (pictures_is (counted_rate code)
 
 -- ---- a picture
 
-low_delay_is : (p : CodedPicture) → AreStricter (low_delay_rule p)
-unfolding low_delay_rule
-low_delay_is p = looked _ _ (judged _ _ refl)
-
-delay_is : (constant : Bool) (delay : ℕ) → AreStricter (delay_rule constant delay)
-unfolding delay_rule
-delay_is constant delay = chosen _ _ _ (judged _ _ refl) (judged _ _ refl)
+delays_are : (constant : Bool) (p : CodedPicture) → AreStricter (delay_remarks constant p)
+unfolding low_delay_rule delay_rule
+delays_are constant p = both (looked _ _ (judged _ _ refl)) (chosen _ _ _ (judged _ _ refl) (judged _ _ refl))
 
 f_code_are : (p : CodedPicture) → AreStricter (f_code_rule p)
 unfolding f_code_rule
@@ -186,44 +153,20 @@ field_are constant p =
     (unset_in_field elements.ProgressiveFrame e.progressive_frame))
     (looked (not (is_judged constant p)) _ (unset_in_field elements.RepeatFirstField e.repeat_first_field)))
 
-prediction_is : (p : CodedPicture) → AreStricter (prediction_rule p)
-unfolding prediction_rule
-prediction_is p = looked _ _ (judged _ _ refl)
-
-top_first_is : (p : CodedPicture) → AreStricter (top_first_rule p)
-unfolding top_first_rule
-top_first_is p = looked _ _ (judged _ _ refl)
-
-interlaced_is : (constant : Bool) (p : CodedPicture) → AreStricter (interlaced_rule constant p)
-unfolding interlaced_rule
-interlaced_is constant p = looked _ _ (judged _ _ refl)
-
-repeat_is : (constant : Bool) (p : CodedPicture) → AreStricter (repeat_by_rate_rule constant p)
-unfolding repeat_by_rate_rule
-repeat_is constant p = looked _ _ (judged _ _ refl)
-
-chroma_is : (e : PictureExtension) → AreStricter (chroma_rule e)
-unfolding chroma_rule
-chroma_is e = judged _ _ refl
-
 frame_are : (constant : Bool) (p : CodedPicture) → AreStricter (frame_remarks constant p)
+unfolding prediction_rule top_first_rule interlaced_rule repeat_by_rate_rule chroma_rule
 frame_are constant p =
-    both (both (both (both (prediction_is p) (top_first_is p)) (interlaced_is constant p)) (repeat_is constant p))
-    (chroma_is p.note.extension)
+    both
+    (both
+    (both (both (looked _ _ (judged _ _ refl)) (looked _ _ (judged _ _ refl))) (looked _ _ (judged _ _ refl)))
+    (looked _ _ (judged _ _ refl)))
+    (judged _ _ refl)
 
-dropped_is : (p : CodedPicture) → AreStricter (dropped_warning p)
-unfolding dropped_warning
-dropped_is p = judged _ _ refl
-
-b_repeat_is : (p : CodedPicture) → AreStricter (b_repeat_warning p)
-unfolding b_repeat_warning
-b_repeat_is p = looked _ _ (judged _ _ refl)
+picture_warned : (p : CodedPicture) → AreStricter (picture_warnings p)
+unfolding dropped_warning b_repeat_warning
+picture_warned p = both (judged _ _ refl) (looked _ _ (judged _ _ refl))
 
 -- ---- the rules of a disc
-
-disc_size_is : (s : Sequence) → AreStricter (size_rule s)
-unfolding size_rule
-disc_size_is s = judged _ _ refl
 
 format_are : (s : Sequence) → AreStricter (format_rule s)
 unfolding format_rule
@@ -235,16 +178,10 @@ format_are s =
     (judged _ _ refl))
     (judged _ _ refl)
 
-form_warned : (s : Sequence) → AreStricter (form_warning s)
-unfolding form_warning
-form_warned s = both (judged _ _ refl) (judged _ _ refl)
-
-wide_warned : (s : Sequence) → AreStricter (wide_warning s)
-unfolding wide_warning
-wide_warned s = looked _ _ (judged _ _ refl)
-
 dvd_are : (s : Sequence) → AreStricter (dvd_remarks s)
-dvd_are s = both (both (both (disc_size_is s) (format_are s)) (form_warned s)) (wide_warned s)
+unfolding size_rule form_warning wide_warning
+dvd_are s =
+    both (both (both (judged _ _ refl) (format_are s)) (both (judged _ _ refl) (judged _ _ refl))) (looked _ _ (judged _ _ refl))
 
 like_warned : (like : Option Sequence) (s : Sequence) → AreStricter (like_warning like s)
 unfolding like_warning
@@ -261,10 +198,6 @@ group_order_is : (before : Leading) → AreStricter (group_order_rule before)
 unfolding group_order_rule
 group_order_is before = judged _ _ refl
 
-late_header_is : (before : Leading) → AreStricter (late_header_rule before)
-unfolding late_header_rule
-late_header_is before = judged _ _ refl
-
 first_type_is : (headed : Bool) (p : CodedPicture) → AreStricter (first_type_rule headed p)
 unfolding first_type_rule
 first_type_is headed p = judged _ _ refl
@@ -274,12 +207,9 @@ unfolding arrival_rule
 arrival_is rate None p = none
 arrival_is rate (Some d) p = looked _ _ (judged _ _ refl)
 
-end_code_is : (closed : Bool) → AreStricter (end_code_warning closed)
-unfolding end_code_warning
-end_code_is closed = judged _ _ refl
-
 end_are : (before : Leading) (closed : Bool) → AreStricter (end_remarks before closed)
-end_are before closed = both (late_header_is before) (end_code_is closed)
+unfolding late_header_rule end_code_warning
+end_are before closed = both (judged _ _ refl) (judged _ _ refl)
 
 -- ---- the pictures of a disc
 
@@ -287,90 +217,40 @@ headed_is : (headed : Bool) → AreStricter (headed_warning headed)
 unfolding headed_warning
 headed_is headed = judged _ _ refl
 
-fields_are : (before : Runs) (p : CodedPicture) (fields : ℕ) → AreStricter (fields_rule before p fields)
-unfolding fields_rule
-fields_are before p fields = looked _ _ (judged _ _ refl)
-
-b_frames_are : (before : Runs) (p : CodedPicture) → AreStricter (b_frames_warning before p)
-unfolding b_frames_warning
-b_frames_are before p = looked _ _ (judged _ _ refl)
-
-first_group_is : (p : CodedPicture) → AreStricter (first_group_warning p)
-unfolding first_group_warning
-first_group_is p = both (judged _ _ refl) (judged _ _ refl)
-
 dvd_picture_are : (before : Runs) (p : CodedPicture) (fields : ℕ) → AreStricter (dvd_picture_remarks before p fields)
-dvd_picture_are before p fields = both (both (fields_are before p fields) (b_frames_are before p)) (first_group_is p)
+unfolding fields_rule b_frames_warning first_group_warning
+dvd_picture_are before p fields =
+    both (both (looked _ _ (judged _ _ refl)) (looked _ _ (judged _ _ refl))) (both (judged _ _ refl) (judged _ _ refl))
 
 -- ---- the rules of broadcasts
 
-dvb_rate_is : (s : Sequence) → AreStricter (dvb_rate_rule s)
-unfolding dvb_rate_rule
-dvb_rate_is s = looked _ _ (judged _ _ refl)
-
-dvb_size_is : (s : Sequence) → AreStricter (dvb_size_rule s)
-unfolding dvb_size_rule
-dvb_size_is s = looked _ _ (judged _ _ refl)
-
-dvb_aspect_is : (s : Sequence) → AreStricter (dvb_aspect_rule s)
-unfolding dvb_aspect_rule
-dvb_aspect_is s = bounded 82 elements.AspectRatioInformation s.info.aspect 2 4 refl
-
-dvb_level_warned : (s : Sequence) → AreStricter (dvb_level_warning s)
-unfolding dvb_level_warning
-dvb_level_warned s = judged _ _ refl
-
-dvb_rate_warned : (s : Sequence) → AreStricter (dvb_rate_warning s)
-unfolding dvb_rate_warning
-dvb_rate_warned s = looked _ _ (judged _ _ refl)
-
-dvb_size_warned : (s : Sequence) → AreStricter (dvb_size_warning s)
-unfolding dvb_size_warning
-dvb_size_warned s = looked _ _ (judged _ _ refl)
-
 dvb_are : (s : Sequence) → AreStricter (dvb_remarks s)
+unfolding dvb_rate_rule dvb_size_rule dvb_aspect_rule dvb_level_warning dvb_rate_warning dvb_size_warning
 dvb_are s =
     both
-    (both (both (both (both (dvb_rate_is s) (dvb_size_is s)) (dvb_aspect_is s)) (dvb_level_warned s)) (dvb_rate_warned s))
-    (dvb_size_warned s)
-
-atsc_size_is : (s : Sequence) → AreStricter (atsc_size_rule s)
-unfolding atsc_size_rule
-atsc_size_is s = judged _ _ refl
-
-square_or_wide_is : (aspect : ℕ) → AreStricter (square_or_wide aspect)
-unfolding square_or_wide
-square_or_wide_is aspect = judged _ _ refl
+    (both
+    (both
+    (both (both (looked _ _ (judged _ _ refl)) (looked _ _ (judged _ _ refl))) (bounded 82 elements.AspectRatioInformation s.info.aspect 2 4 refl))
+    (judged _ _ refl))
+    (looked _ _ (judged _ _ refl)))
+    (looked _ _ (judged _ _ refl))
 
 aspect_at_is : (width height aspect : ℕ) → AreStricter (aspect_at width height aspect)
-unfolding aspect_at
+unfolding aspect_at square_or_wide
 aspect_at_is width height aspect =
     let within_is : (low high : ℕ) → AreStricter (within 91 elements.AspectRatioInformation aspect low high) =
     λ low high. bounded 91 elements.AspectRatioInformation aspect low high refl in
-    chosen _ _ _ (square_or_wide_is aspect) (chosen _ _ _ (within_is 1 2) (within_is 2 3))
-
-atsc_aspect_is : (s : Sequence) → AreStricter (atsc_aspect_rule s)
-unfolding atsc_aspect_rule
-atsc_aspect_is s = looked _ _ (aspect_at_is _ _ _)
-
-progressive_rate_is : (s : Sequence) → AreStricter (progressive_rate_rule s)
-unfolding progressive_rate_rule
-progressive_rate_is s = judged _ _ refl
-
-atsc_rate_is : (s : Sequence) → AreStricter (atsc_rate_rule s)
-unfolding atsc_rate_rule
-atsc_rate_is s = chosen _ _ _ (progressive_rate_is s) (bounded 92 elements.FrameRateCode s.info.frame_rate_code 4 5 refl)
-
-atsc_form_is : (s : Sequence) → AreStricter (atsc_form_rule s)
-unfolding atsc_form_rule
-atsc_form_is s = looked _ _ (judged _ _ refl)
-
-atsc_buffer_is : (s : Sequence) → AreStricter (atsc_buffer_rule s)
-unfolding atsc_buffer_rule
-atsc_buffer_is s = both (judged _ _ refl) (judged _ _ refl)
+    chosen _ _ _ (judged _ _ refl) (chosen _ _ _ (within_is 1 2) (within_is 2 3))
 
 atsc_are : (s : Sequence) → AreStricter (atsc_remarks s)
-atsc_are s = both (both (both (both (atsc_size_is s) (atsc_aspect_is s)) (atsc_rate_is s)) (atsc_form_is s)) (atsc_buffer_is s)
+unfolding atsc_size_rule atsc_aspect_rule atsc_rate_rule progressive_rate_rule atsc_form_rule atsc_buffer_rule
+atsc_are s =
+    both
+    (both
+    (both (both (judged _ _ refl) (looked _ _ (aspect_at_is _ _ _)))
+    (chosen _ _ _ (judged _ _ refl) (bounded 92 elements.FrameRateCode s.info.frame_rate_code 4 5 refl)))
+    (looked _ _ (judged _ _ refl)))
+    (both (judged _ _ refl) (judged _ _ refl))
 
 atsc_delay_warned : (delay : ℕ) → AreStricter (atsc_delay_warning delay)
 unfolding atsc_delay_warning
@@ -475,13 +355,13 @@ of_picture n rules before constant runs p =
     (none_both
     (none_both
     (none_of n p.number bit (first_type_is before.headed p))
-    (none_of n p.number bit (both (low_delay_is p) (delay_is constant p.note.info.vbv_delay))))
+    (none_of n p.number bit (delays_are constant p)))
     (none_of n p.number bit (arrival_is before.rate before.picture p)))
     (none_of n p.number bit (f_code_are p)))
     (none_of n p.number bit (full_pel_are p.note.info)))
     (none_of n p.number bit (field_are constant p)))
     (none_of n p.number bit (frame_are constant p)))
-    (none_of n p.number bit (both (dropped_is p) (b_repeat_is p))))
+    (none_of n p.number bit (picture_warned p)))
     (none_of n p.number bit (set_picture_are rules runs p (fields_of p.sequence p.note)))
 
 pub picture_stricter : (n : ℕ) (rules : RuleSet) (before : Preceding) (constant : Bool) (runs : Runs) (p : CodedPicture)

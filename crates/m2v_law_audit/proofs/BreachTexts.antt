@@ -17,8 +17,7 @@ use Rattle.m2v_audit.proofs.m2v_check.Telling.{first_in}
 use Rattle.m2v_audit.specs.declared.records.Finding.{Finding}
 use Rattle.m2v_audit.specs.declared.auditing.Auditing.{Auditing}
 use Rattle.m2v_audit.specs.declared.report.Rate.{Rate}
-use Rattle.m2v_audit.specs.Account.{Account}
-use Rattle.m2v_audit.specs.Auditing.{nothing, leading, with_ending, with_headers, with_display, with_others, begun, longer, pictured, settled_by, after_piece}
+use Rattle.m2v_audit.specs.Auditing.{nothing, leading, with_headers, with_display, begun, longer}
 use Rattle.m2v_audit.specs.Front.{front_of}
 use Rattle.m2v_audit.specs.Others.{others_of, display_of}
 use Rattle.m2v_audit.specs.Places.{told_at_close}
@@ -35,17 +34,13 @@ use Rattle.m2v_law_audit.proofs.BreachPieces.{beside, kept, same_left, told_besi
 use Rattle.m2v_law_audit.proofs.EventsFront.{Fronts, all_go_on}
 use Rattle.m2v_law_audit.proofs.EventsPieces.{BeginWith, text_begins}
 use Rattle.m2v_law_audit.proofs.AccountReading.{Turn, Turns, in_pieces, begun_at, behind_piece, one_piece, first_header, header_stays, first_begun}
-use Rattle.m2v_law_audit.proofs.PartsKept.{kept_after}
+use Rattle.m2v_law_audit.proofs.PartsKept.{headers_leave, kept_after}
 
 -- ---- one piece
 
 -- the bit where the start code of its picture ends
 abbrev pub end_in : ℕ → List ℕ → ℕ
 end_in place p = 8 * place + code_bits p
-
-settled_kept : (a : Auditing) (o : Option Account) → kept (settled_by a o) ≡ kept a
-settled_kept a None = refl
-settled_kept a (Some x) = refl
 
 piece_follows : (a : Auditing) (place : ℕ) (p : List ℕ) (es : Events) → Fronts (front_of place p) es → Follows a (map header_pair (sequences_in es)) 0 (front_of place p) (end_in place p) es
 piece_follows a place p es f = follows (front_of place p) es a (map header_pair (sequences_in es)) 0 (end_in place p) f (all_go_on (map header_pair (sequences_in es)))
@@ -67,17 +62,10 @@ piece_judged a place p es f =
 
 piece_kept : (a : Auditing) (place : ℕ) (p : List ℕ) (es : Events) → Fronts (front_of place p) es
     → kept (behind_piece a place p es) ≡ kept_behind (kept (begun_at a place p es)) (marked (end_in place p) es)
-unfolding after_piece notes_of
+unfolding notes_of
 piece_kept a place p es f =
-    let b = begun_at a place p es in
-    let n = notes_of place p es in
-    let os = others_of place p in
-    let headed = with_headers b n.sequences 0 (front_of place p) in
-    let front = with_display place os headed in
-    let behind = pictured front place (length p) (zeros_last p) n.picture in
-    settled_kept (with_ending place p (with_others front.pictures os behind)) behind.account
-    ∙ same_left front headed headed.sequence n.picture place (length p) (zeros_last p) refl
-    ∙ (piece_follows b place p es f).leaves place (length p) (zeros_last p)
+    headers_leave kept (λ a r d last x. refl) same_left a place p (notes_of place p es)
+    ∙ (piece_follows (begun_at a place p es) place p es f).leaves place (length p) (zeros_last p)
 
 -- the first sequence header stays
 pub piece_first : (a : Auditing) (place : ℕ) (p : List ℕ) (es : Events) → (behind_piece a place p es).first ≡ (begun_at a place p es).first

@@ -1,10 +1,8 @@
 -- What is found of a stream of which the stricter rules remark breaches of some rules alone: breaches of these, and of the rules that the
 -- verifier looks at.
 use Rattle.std.proofs.Common.{◌≡◌, ℕ, ◌+◌, true, List, [], ◌∷◌, ◌++◌, length, map, Option, Some, None, inl, inr, refl, sym, ap, subst, ◌∙◌}
-use Rattle.std.specs.Prelude.{nat_le, slice_get}
+use Rattle.std.specs.Prelude.{nat_le}
 use Rattle.std.proofs.lemmas.Bool.{cases_Bool}
-use Rattle.m2v_model.specs.m2v_macroblock.m2v_head.declared.sequence.SequenceInfo.{SequenceInfo}
-use Rattle.m2v_model.specs.m2v_macroblock.m2v_head.declared.sequence.SequenceExtension.{SequenceExtension}
 use Rattle.m2v_model.specs.declared.state.Sequence.{Sequence}
 use Rattle.m2v_model.specs.declared.notes.PictureNote.{PictureNote}
 use Rattle.m2v_model.specs.Pictures.{Events}
@@ -19,14 +17,11 @@ use Rattle.m2v_audit.specs.m2v_check.Running.{ends_frame}
 use Rattle.m2v_audit.specs.m2v_strict.declared.rule_set.RuleSet.TheVariants as sets
 use Rattle.m2v_audit.specs.declared.asked.Asked.{Asked}
 use Rattle.m2v_audit.specs.declared.auditing.Auditing.{Auditing}
-use Rattle.m2v_audit.specs.declared.headers.PieceHeader.{PieceHeader}
-use Rattle.m2v_audit.specs.declared.headers.PieceHeader.TheVariants as headers
-use Rattle.m2v_audit.specs.Account.{Account}
-use Rattle.m2v_audit.specs.Auditing.{nothing, with_header, sequences_of, with_headers, with_note, with_display, with_others, begun, longer, pictured, with_ending, settled_by, after_piece}
+use Rattle.m2v_audit.specs.Auditing.{nothing, with_note, begun, longer, fronted}
 use Rattle.m2v_audit.specs.Front.{front_of}
-use Rattle.m2v_audit.specs.Others.{others_of}
 use Rattle.m2v_law_audit.specs.Sequences.{first_byte}
 use Rattle.m2v_law_audit.specs.Found.{piece_found, end_found, all_along, all_found, findings_of}
+use Rattle.m2v_law_audit.proofs.PartsKept.{headers_keep, piece_leaves, headers_leave}
 use Rattle.m2v_law_audit.proofs.EventsFront.{Fronts, all_go_on}
 use Rattle.m2v_law_audit.proofs.EventsPieces.{BeginWith, text_begins}
 use Rattle.m2v_law_audit.proofs.AccountReading.{Turn, Turns, in_pieces, begun_at, behind_piece, one_piece, first_header, header_stays, first_begun}
@@ -42,44 +37,21 @@ use Rattle.m2v_law_audit.proofs.VerdictRules.{none_before, none_behind}
 
 -- ---- the rules that are asked for stay
 
-rules_with : (a : Auditing) (h : PieceHeader) (s : Option (SequenceInfo × SequenceExtension)) → (with_header a h s).rules ≡ a.rules
-unfolding with_header
-rules_with a (headers.Sequence bit) None = refl
-rules_with a (headers.Sequence bit) (Some s) = refl
-rules_with a (headers.Group bit g) s = refl
-
-rules_in_front : (a : Auditing) (ss : List (SequenceInfo × SequenceExtension)) (k : ℕ) (hs : List PieceHeader)
-    → (with_headers a ss k hs).rules ≡ a.rules
-unfolding with_headers
-rules_in_front a ss k [] = refl
-rules_in_front a ss k (h ∷ hs) = rules_in_front (with_header a h (slice_get ss k)) ss (k + sequences_of h) hs ∙ rules_with a h (slice_get ss k)
-
 rules_noted : (a : Auditing) (s : Option Sequence) (n : Option PictureNote) (place bytes ending : ℕ)
     → (with_note a s n place bytes ending).rules ≡ a.rules
 rules_noted a s None place bytes ending = refl
 rules_noted a None (Some n) place bytes ending = refl
 rules_noted a (Some s) (Some n) place bytes ending = elim (cases_Bool (ends_frame n)) [ inl on ↦ rw on refl | inr off ↦ rw off refl ]
 
-rules_settled : (a : Auditing) (x : Option Account) → (settled_by a x).rules ≡ a.rules
-rules_settled a None = refl
-rules_settled a (Some x) = refl
-
 rules_behind : (a : Auditing) (place : ℕ) (p : List ℕ) (es : Events) → (behind_piece a place p es).rules ≡ (begun_at a place p es).rules
-unfolding after_piece
 rules_behind a place p es =
     let n : PieceNotes = notes_of place p es in
-    let b = begun_at a place p es in
-    let os = others_of place p in
-    let front = with_display place os (with_headers b n.sequences 0 (front_of place p)) in
-    let behind = pictured front place (length p) (zeros_last p) n.picture in
-    rules_settled (with_ending place p (with_others front.pictures os behind)) behind.account ∙ rules_noted front front.sequence n.picture place (length p) (zeros_last p)
-    ∙ rules_in_front b n.sequences 0 (front_of place p)
+    let front : Auditing = fronted (longer (length p) a) place p n in
+    piece_leaves (λ (x : Auditing). x.rules) (λ a r d last x. refl) a place p n
+    ∙ rules_noted front front.sequence n.picture place (length p) (zeros_last p)
+    ∙ headers_keep (λ (x : Auditing). x.rules) (λ a bit s. refl) (λ a bit g. refl) (begun_at a place p es) n.sequences 0 (front_of place p)
 
 -- ---- what came before what stands behind a piece
-
-settled_before : (a : Auditing) (x : Option Account) → before (settled_by a x) ≡ before a
-settled_before a None = refl
-settled_before a (Some x) = refl
 
 -- what a picture leaves hangs on no more than what came before
 same_before : (a b : Auditing) (o : Option Sequence) (n : Option PictureNote) (place bytes ending : ℕ) → before a ≡ before b
@@ -92,17 +64,10 @@ same_before a b o (Some n) place bytes ending e =
 
 piece_before : (a : Auditing) (place : ℕ) (p : List ℕ) (es : Events) → Fronts (front_of place p) es
     → before (behind_piece a place p es) ≡ before_behind (before (begun_at a place p es)) (marked (end_in place p) es)
-unfolding after_piece notes_of
+unfolding notes_of
 piece_before a place p es f =
-    let b = begun_at a place p es in
-    let n = notes_of place p es in
-    let os = others_of place p in
-    let headed = with_headers b n.sequences 0 (front_of place p) in
-    let front = with_display place os headed in
-    let behind = pictured front place (length p) (zeros_last p) n.picture in
-    settled_before (with_ending place p (with_others front.pictures os behind)) behind.account
-    ∙ same_before front headed headed.sequence n.picture place (length p) (zeros_last p) refl
-    ∙ front_before (front_of place p) es b (map header_pair (sequences_in es)) 0 (end_in place p) place (length p) (zeros_last p) f
+    headers_leave before (λ a r d last x. refl) same_before a place p (notes_of place p es)
+    ∙ front_before (front_of place p) es (begun_at a place p es) (map header_pair (sequences_in es)) 0 (end_in place p) place (length p) (zeros_last p) f
     (all_go_on (map header_pair (sequences_in es)))
 
 -- ---- pieces

@@ -24,7 +24,7 @@ use Rattle.m2v_audit.proofs.m2v_check.m2v_model.HeaderLaws.{whole_header_lawful,
 use Rattle.m2v_audit.proofs.m2v_check.m2v_model.SplitLaws.{KnownAt, known_at}
 use Rattle.m2v_audit.proofs.m2v_check.m2v_model.FlowLaws.{part_read, read_once, unit_less}
 use Rattle.m2v_audit.proofs.m2v_check.m2v_decode.m2v_dec_rows.UnitGifts.{IsLast, first_value, unit_says}
-use Rattle.m2v_audit.proofs.m2v_check.Telling.{last_in}
+use Rattle.m2v_audit.proofs.m2v_check.Telling.{last_in, of_last}
 use Rattle.m2v_audit.proofs.m2v_check.Ordered.{HeadersFirst}
 use Rattle.m2v_audit.specs.declared.auditing.Auditing.{Auditing}
 use Rattle.m2v_audit.specs.Auditing.{with_sequence, with_group, with_header, sequences_of, with_headers}
@@ -162,15 +162,9 @@ closed_last b us next a = (
 )
 
 last_fronted : AtLast Fronted
-last_fronted b us (sequence s) a l = absurd l
-last_fronted b us (group g) a l = absurd l
-last_fronted b us (picture info extension) a l = absurd l
-last_fronted b us (matrices m) a l = absurd l
-last_fronted b us (slice row x) a l = absurd l
-last_fronted b us (unread_slice row u) a l = absurd l
-last_fronted b us (skipped_unit u) a l = absurd l
-last_fronted b us ending a l = closed_last b us (after_part b ending) a
-last_fronted b us over a l = closed_last b us (after_part b over) a
+last_fronted b us p a =
+    of_last (λ (q : Part). Fronted b us (told_by b.state b.store q) (after_part b q))
+    (closed_last b us (after_part b ending) a) (closed_last b us (after_part b over) a) p
 
 -- ---- in front of others
 

@@ -20,15 +20,14 @@ use Rattle.m2v_audit.specs.m2v_check.Running.{ends_frame}
 use Rattle.m2v_audit.specs.declared.auditing.Auditing.{Auditing}
 use Rattle.m2v_audit.specs.declared.headers.PieceHeader.{PieceHeader}
 use Rattle.m2v_audit.specs.declared.headers.PieceHeader.TheVariants as headers
-use Rattle.m2v_audit.specs.Account.{Account}
-use Rattle.m2v_audit.specs.Auditing.{nothing, longer, begun, begun_by, with_header, sequences_of, with_headers, is_shown, coded, counted, with_told, with_note, settled_by, with_others, fronted, pictured, with_ending, after_piece, ended, ended_by}
+use Rattle.m2v_audit.specs.Auditing.{nothing, longer, begun, begun_by, with_headers, is_shown, coded, counted, with_told, with_note, fronted, ended, ended_by}
 use Rattle.m2v_audit.specs.Front.{front_of}
-use Rattle.m2v_audit.specs.Others.{others_of}
 use Rattle.m2v_audit.specs.Report.{one_more}
 use Rattle.m2v_audit.proofs.m2v_check.Telling.{last_in, AreHeaded}
 use Rattle.m2v_audit.proofs.m2v_check.Onward.{none_or_one}
 use Rattle.m2v_audit.specs.declared.asked.Asked.{Asked}
 use Rattle.m2v_law_audit.specs.Sequences.{by_piece, reported, first_byte, sequence_report}
+use Rattle.m2v_law_audit.proofs.PartsKept.{headers_keep, piece_leaves}
 use Rattle.m2v_law_audit.proofs.AccountReading.{Turn, Turns, turn_read, in_pieces, begun_at, behind_piece}
 use Rattle.m2v_law_audit.proofs.EventsFront.{Fronts, last_sequence}
 use Rattle.m2v_law_audit.proofs.RemovalEvents.{rest_one}
@@ -69,16 +68,8 @@ begun_counts None a place notes = by (slice_get notes.sequences 0)
     by None = refl
     by (Some s) = refl
 
-header_counts : (a : Auditing) (h : PieceHeader) (s : Option (SequenceInfo × SequenceExtension)) → numbers_in (with_header a h s) ≡ numbers_in a
-unfolding with_header
-header_counts a (headers.Sequence bit) None = refl
-header_counts a (headers.Sequence bit) (Some s) = refl
-header_counts a (headers.Group bit g) s = refl
-
 headers_count : (a : Auditing) (ss : List (SequenceInfo × SequenceExtension)) (k : ℕ) (hs : List PieceHeader) → numbers_in (with_headers a ss k hs) ≡ numbers_in a
-unfolding with_headers
-headers_count a ss k [] = refl
-headers_count a ss k (h ∷ hs) = headers_count (with_header a h (slice_get ss k)) ss (k + sequences_of h) hs ∙ header_counts a h (slice_get ss k)
+headers_count = headers_keep numbers_in (λ a bit s. refl) (λ a bit g. refl)
 
 -- the headers of a piece leave the last sequence header that it tells
 fronted_counts : (a : Auditing) (place : ℕ) (piece : List ℕ) (es : Events) → Fronts (front_of place piece) es
@@ -110,22 +101,16 @@ noted_counts a (Some s) (Some n) place bytes ending headed =
     let told : Auditing = with_told (counted a p) p bytes ending in
     either (ends_frame n) _ _ (counted_in told) refl refl
 
-settled_counts : (a : Auditing) (x : Option Account) → counted_in (settled_by a x) ≡ counted_in a
-settled_counts a None = refl
-settled_counts a (Some x) = refl
-
 piece_counts : (a : Auditing) (place : ℕ) (piece : List ℕ) (es : Events) → Fronts (front_of place piece) es → (last_in a.sequence es ≡ None → pictures_in es ≡ [])
     → counted_in (behind_piece a place piece es) ≡ with_picture ((a.pictures, a.frames, a.bytes + length piece), last_in a.sequence es) (first_note (8 * place + code_bits piece) (pictures_in es))
-unfolding after_piece
 piece_counts a place piece es fronts headed =
     let notes = notes_of place piece es in
     let d : Auditing = fronted (longer (length piece) a) place piece notes in
-    let e : Auditing = pictured d place (length piece) (zeros_last piece) notes.picture in
     let front = fronted_counts a place piece es fronts in
     let picture = noted_picture place piece es in
     let none : d.sequence ≡ None → notes.picture ≡ None =
     λ is. picture ∙ ap (first_note (8 * place + code_bits piece)) (headed (sym (ap (λ (x : Counted). x.1) front) ∙ is)) in
-    settled_counts (with_ending place piece (with_others d.pictures (others_of place piece) e)) e.account ∙ noted_counts d d.sequence notes.picture place (length piece) (zeros_last piece) none ∙ (λ i. with_picture (front i) (picture i))
+    piece_leaves counted_in (λ a r d last x. refl) a place piece notes ∙ noted_counts d d.sequence notes.picture place (length piece) (zeros_last piece) none ∙ (λ i. with_picture (front i) (picture i))
 
 -- ---- pieces
 

@@ -1,5 +1,5 @@
 -- Two runs of one sequence, of which one stands further on: what else stands before the first slice of a piece.
-use Rattle.std.proofs.Common.{◌≡◌, ℕ, ◌+◌, ◌*◌, Bool, true, false, List, [], ◌∷◌, ◌++◌, length, Result, Ok, Err, Option, refl, sym, ap, subst, ◌∙◌}
+use Rattle.std.proofs.Common.{◌≡◌, ℕ, ◌+◌, ◌*◌, Bool, List, [], ◌∷◌, ◌++◌, length, Result, Ok, Err, Option, refl, sym, ap, subst, ◌∙◌}
 use Rattle.std.specs.Prelude.{map, nat_eq, if◌then◌else◌}
 use Rattle.std.specs.Option.{option_map}
 use Rattle.std.proofs.lemmas.List.{map-append}
@@ -19,7 +19,7 @@ use Rattle.m2v_audit.specs.Findings.{with_remarks}
 use Rattle.m2v_audit.specs.Others.{display_told, extra_told, matrices_told, display_at, extra_at, display_in, extra_in, matrices_of, other_at, is_slice, others_from, others_of, display_of, own_remarks, own_bit, with_own_remarks, headed_remarks, display_behind}
 use Rattle.m2v_audit.specs.Report.{Report}
 use Rattle.m2v_law_audit.proofs.MovedReports.{Together, remarks_at, note_on}
-use Rattle.m2v_law_audit.proofs.MovedSteps.{Moves, step_both, beside, further, next_bit, AreFurther, pictured_both}
+use Rattle.m2v_law_audit.proofs.MovedSteps.{Moves, step_both, beside, further, lists_chosen, list_further, AreFurther, pictured_both}
 
 -- the same so many bytes further on
 abbrev pub other_on : ℕ → Other → Other
@@ -42,10 +42,6 @@ module _ (k : ℕ) where
   matrices_further bit (Ok x) = refl
   matrices_further bit (Err f) = refl
 
-  lists_chosen : (b : Bool) (xs ys us vs : List Other) → xs ≡ map (other_on k) us → ys ≡ map (other_on k) vs → (if b then xs else ys) ≡ map (other_on k) (if b then us else vs)
-  lists_chosen true xs ys us vs e f = e
-  lists_chosen false xs ys us vs e f = f
-
   -- what a unit tells that is an extension
   extension_further : (bit : ℕ) (u : List ℕ) → display_in u ++ matrices_of (bit + 8 * k) u ≡ map (other_on k) (display_in u ++ matrices_of bit u)
   unfolding display_in matrices_of
@@ -59,20 +55,12 @@ module _ (k : ℕ) where
   other_further : (bit : ℕ) (u : List ℕ) → other_at (bit + 8 * k) u ≡ map (other_on k) (other_at bit u)
   unfolding other_at extra_in
   other_further bit u =
-      lists_chosen (nat_eq (value_of u) 0x00) _ _ (extra_told bit (extra_at.read (body u))) _ (extra_further bit (extra_at.read (body u)))
-      (lists_chosen (nat_eq (value_of u) 0xB5) _ _ (display_in u ++ matrices_of bit u) [] (extension_further bit u) refl)
+      lists_chosen (other_on k) (nat_eq (value_of u) 0x00) _ _ (extra_told bit (extra_at.read (body u))) _ (extra_further bit (extra_at.read (body u)))
+      (lists_chosen (other_on k) (nat_eq (value_of u) 0xB5) _ _ (display_in u ++ matrices_of bit u) [] (extension_further bit u) refl)
 
   others_further : (bit : ℕ) (us : Units) → others_from (bit + 8 * k) us ≡ map (other_on k) (others_from bit us)
   unfolding others_from
-  others_further bit [] = refl
-  others_further bit (u ∷ us) =
-      let here = other_at bit u in
-      let next = others_from (bit + 8 * length u) us in
-      lists_chosen (is_slice (value_of u)) [] _ [] (here ++ next) refl
-      (ap (λ (l : List Other). l ++ others_from (bit + 8 * k + 8 * length u) us) (other_further bit u)
-      ∙ ap (λ (m : ℕ). map (other_on k) here ++ others_from m us) (next_bit k bit (length u))
-      ∙ ap (λ (l : List Other). map (other_on k) here ++ l) (others_further (bit + 8 * length u) us)
-      ∙ sym (map-append (other_on k) here next))
+  others_further = list_further k (other_on k) other_at other_further is_slice others_from (λ bit. refl) (λ bit u us. refl)
 
   pub all_further : (place : ℕ) (piece : List ℕ) → others_of (place + k) piece ≡ map (other_on k) (others_of place piece)
   all_further place piece =

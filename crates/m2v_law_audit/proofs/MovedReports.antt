@@ -46,8 +46,9 @@ use Rattle.m2v_audit.specs.declared.tally.Tally.{Tally}
 use Rattle.m2v_audit.specs.Account.{Told}
 use Rattle.m2v_audit.specs.Auditing.{with_shown, with_end_remarks, with_sequence_remarks, with_group_by, with_rules, with_picture_remarks, with_all_remarks}
 use Rattle.m2v_audit.specs.HeaderRecords.{bit_of}
+use Rattle.m2v_audit.specs.declared.records.Finding.{Finding}
 use Rattle.m2v_audit.specs.Findings.{broken_at, remarked_at, misplaced_at, with_breaches, with_remarks, with_misplaced, with_removals}
-use Rattle.m2v_audit.specs.Lines.{skipped_line, sequence_line, group_line, picture_line, held_line, breach_line, warning_line, failure_line, count_line, end_line}
+use Rattle.m2v_audit.specs.Lines.{skipped_line, sequence_line, group_line, picture_line, held_line, failure_line, count_line, end_line}
 use Rattle.m2v_audit.specs.Report.{Report, with_text, with_rule, with_warned, with_failing, with_due, finding_of, with_breach, with_warning, with_finding, held_of, under_of, over_of, with_failure, with_held, with_under, with_over, is_far, far_at, with_far, with_removal, with_begin, with_group_line, with_picture_line, count_of, with_count, with_counts, end_of, with_end}
 use Rattle.m2v_audit.specs.Times.{fields_of}
 use Rattle.m2v_law_audit.specs.Moved.{Record, of_skipped, of_sequence, of_group, of_picture, of_held, of_breach, of_warning, of_failure, of_count, of_end, record_text, moved}
@@ -125,12 +126,18 @@ both_count f h = record {
 abbrev pub broken_on : ℕ → Broken → Broken
 broken_on k b = record b { bit = b.bit + 8 * k }
 
+-- one that is told by a record, and counted
+finding_comes : {n k : ℕ} {r s : Report} (of : Finding → Record) (count : Tally → Tally) (b : Broken)
+    → of (finding_of (r.sequence + n) (broken_on k b)) ≡ moved n k (of (finding_of r.sequence b)) → Together n k r s
+    → Together n k (record r { text = r.text ++ record_text (of (finding_of r.sequence b)); tally = count r.tally })
+    (record s { text = s.text ++ record_text (of (finding_of s.sequence (broken_on k b))); tally = count s.tally })
+finding_comes {n} {k} {r} {s} of count b is h =
+    counted_line (of (finding_of r.sequence b)) (record_text (of (finding_of s.sequence (broken_on k b)))) (count r.tally) (count s.tally) h
+    (ap (λ (q : ℕ). record_text (of (finding_of q (broken_on k b)))) h.sequence ∙ ap record_text is)
+    (ap count h.tally)
+
 breach_comes : {n k : ℕ} {r s : Report} (b : Broken) → Together n k r s → Together n k (with_breach r b) (with_breach s (broken_on k b))
-breach_comes {n} {k} {r} {s} b h =
-    counted_line (of_breach (finding_of r.sequence b)) (breach_line (finding_of s.sequence (broken_on k b)))
-    (with_rule r.tally b.rule b.picture) (with_rule s.tally b.rule b.picture) h
-    (ap (λ (q : ℕ). breach_line (finding_of q (broken_on k b))) h.sequence)
-    (ap (λ (t : Tally). with_rule t b.rule b.picture) h.tally)
+breach_comes b h = finding_comes of_breach (λ (t : Tally). with_rule t b.rule b.picture) b refl h
 
 breaches_come : {n k : ℕ} (r s : Report) (picture bit : ℕ) (bs : Breaches) → Together n k r s → Together n k (with_breaches r picture bit bs) (with_breaches s picture (bit + 8 * k) bs)
 unfolding with_breaches
@@ -146,11 +153,7 @@ breaches_at {n} {k} {r} {s} picture bit other bs e h =
 -- ---- what the stricter rules remark
 
 warning_comes : {n k : ℕ} {r s : Report} (b : Broken) → Together n k r s → Together n k (with_warning r b) (with_warning s (broken_on k b))
-warning_comes {n} {k} {r} {s} b h =
-    counted_line (of_warning (finding_of r.sequence b)) (warning_line (finding_of s.sequence (broken_on k b)))
-    (with_warned r.tally b.rule b.picture) (with_warned s.tally b.rule b.picture) h
-    (ap (λ (q : ℕ). warning_line (finding_of q (broken_on k b))) h.sequence)
-    (ap (λ (t : Tally). with_warned t b.rule b.picture) h.tally)
+warning_comes b h = finding_comes of_warning (λ (t : Tally). with_warned t b.rule b.picture) b refl h
 
 -- a warning, or else a breach
 finding_chosen : {n k : ℕ} {r s : Report} (warns : Bool) (b : Broken) → Together n k r s

@@ -161,36 +161,44 @@ headers_both {n} {k} a b ss j (h ∷ hs) m =
     subst (λ (c : ℕ). Moves n k (with_headers next ss (j + sequences_of h) hs) (with_headers other ss (j + c) (map (header_on k) hs))) (sym (counts_same k h))
     (headers_both next other ss (j + sequences_of h) hs (header_both h (slice_get ss j) m))
 
+-- lists that stand further on by the same map
+pub lists_chosen : {T : Type 0} (on : T → T) (b : Bool) (xs ys us vs : List T) → xs ≡ map on us → ys ≡ map on vs → (if b then xs else ys) ≡ map on (if b then us else vs)
+lists_chosen on true xs ys us vs e f = e
+lists_chosen on false xs ys us vs e f = f
+
+next_bit : (k bit bytes : ℕ) → bit + 8 * k + 8 * bytes ≡ bit + 8 * bytes + 8 * k
+next_bit k bit bytes = omega arith
+
+-- a list of what stands in each unit, up to one that ends it
+module _ {T : Type 0} (k : ℕ) (on : T → T) (at : ℕ → List ℕ → List T) (each : (bit : ℕ) (u : List ℕ) → at (bit + 8 * k) u ≡ map on (at bit u))
+    (ends : ℕ → Bool) (from : ℕ → Units → List T) (none : (bit : ℕ) → from bit [] ≡ [])
+    (step : (bit : ℕ) (u : List ℕ) (us : Units) → from bit (u ∷ us) ≡ (if ends (value_of u) then [] else at bit u ++ from (bit + 8 * length u) us)) where
+  pub list_further : (bit : ℕ) (us : Units) → from (bit + 8 * k) us ≡ map on (from bit us)
+  list_further bit [] = none (bit + 8 * k) ∙ sym (ap (map on) (none bit))
+  list_further bit (u ∷ us) =
+      let here = at bit u in
+      let next = from (bit + 8 * length u) us in
+      let rest : from (bit + 8 * k + 8 * length u) us ≡ map on next =
+      ap (λ (m : ℕ). from m us) (next_bit k bit (length u)) ∙ list_further (bit + 8 * length u) us in
+      step (bit + 8 * k) u us
+      ∙ lists_chosen on (ends (value_of u)) [] _ [] (here ++ next) refl ((λ i. each bit u i ++ rest i) ∙ sym (map-append on here next))
+      ∙ sym (ap (map on) (step bit u us))
+
 -- where headers stand
 module _ (k : ℕ) where
   group_further : (bit : ℕ) (x : Result (GroupInfo × List Bool) (FaultKind × ℕ)) → group_told (bit + 8 * k) x ≡ map (header_on k) (group_told bit x)
   group_further bit (Ok x) = refl
   group_further bit (Err f) = refl
 
-  lists_chosen : (b : Bool) (xs ys : List PieceHeader) (us vs : List PieceHeader) → xs ≡ map (header_on k) us → ys ≡ map (header_on k) vs → (if b then xs else ys) ≡ map (header_on k) (if b then us else vs)
-  lists_chosen true xs ys us vs e f = e
-  lists_chosen false xs ys us vs e f = f
-
   header_further : (bit : ℕ) (u : List ℕ) → header_at (bit + 8 * k) u ≡ map (header_on k) (header_at bit u)
   unfolding header_at group_at
   header_further bit u =
-      lists_chosen (nat_eq (value_of u) 0xB3) _ _ (headers.Sequence bit ∷ []) _ refl
-      (lists_chosen (nat_eq (value_of u) 0xB8) _ _ (group_told bit ((whole_header group_in).read (body u))) [] (group_further bit ((whole_header group_in).read (body u))) refl)
-
-  pub next_bit : (bit bytes : ℕ) → bit + 8 * k + 8 * bytes ≡ bit + 8 * bytes + 8 * k
-  next_bit bit bytes = omega arith
+      lists_chosen (header_on k) (nat_eq (value_of u) 0xB3) _ _ (headers.Sequence bit ∷ []) _ refl
+      (lists_chosen (header_on k) (nat_eq (value_of u) 0xB8) _ _ (group_told bit ((whole_header group_in).read (body u))) [] (group_further bit ((whole_header group_in).read (body u))) refl)
 
   headers_further : (bit : ℕ) (us : Units) → headers_from (bit + 8 * k) us ≡ map (header_on k) (headers_from bit us)
   unfolding headers_from
-  headers_further bit [] = refl
-  headers_further bit (u ∷ us) =
-      let here = header_at bit u in
-      let next = headers_from (bit + 8 * length u) us in
-      lists_chosen (nat_eq (value_of u) 0x00) [] _ [] (here ++ next) refl
-      (ap (λ (l : List PieceHeader). l ++ headers_from (bit + 8 * k + 8 * length u) us) (header_further bit u)
-      ∙ ap (λ (m : ℕ). map (header_on k) here ++ headers_from m us) (next_bit bit (length u))
-      ∙ ap (λ (l : List PieceHeader). map (header_on k) here ++ l) (headers_further (bit + 8 * length u) us)
-      ∙ sym (map-append (header_on k) here next))
+  headers_further = list_further k (header_on k) header_at header_further (λ value. nat_eq value 0x00) headers_from (λ bit. refl) (λ bit u us. refl)
 
   front_further : (place : ℕ) (piece : List ℕ) → front_of (place + k) piece ≡ map (header_on k) (front_of place piece)
   front_further place piece =

@@ -16,6 +16,7 @@ use Rattle.m2v_audit.specs.Times.{Times, after}
 use Rattle.m2v_audit.proofs.m2v_check.Telling.{first_in, last_in, AreHeaded}
 use Rattle.m2v_audit.proofs.m2v_check.Ordered.{PictureLast}
 use Rattle.m2v_audit.proofs.m2v_check.Listed.{all_bits}
+use Rattle.m2v_audit.proofs.m2v_check.Ruling.{numbered_none}
 use Rattle.m2v_law_audit.specs.Accounts.{due_at, dues_from}
 use Rattle.m2v_law_audit.proofs.AccountReading.{Turns, HasHeader, header_stays}
 
@@ -50,13 +51,6 @@ dues_read t at p [] n (m ∷ ns) = refl
 dues_read t at p (q ∷ ps) n (m ∷ ns) = ap (λ (ds : List Due). due_at t at (bits_of_piece p) p n ∷ ds) (dues_read (after t n.sequence (note_at at p n)) (at + length p) q ps m ns)
 
 -- ---- pictures among the others
-
-no_numbered : (o : Option Sequence) (group : ℕ) (first_in_group : Bool) (number frames : ℕ) (es : Events) → pictures_in es ≡ [] → numbered o group first_in_group number frames es ≡ []
-unfolding numbered
-no_numbered o group first_in_group number frames [] e = refl
-no_numbered o group first_in_group number frames (sequence_header s ∷ es) e = no_numbered (Some s) group first_in_group number frames es e
-no_numbered o group first_in_group number frames (group_header g ∷ es) e = no_numbered o (group + 1) true number frames es e
-no_numbered o group first_in_group number frames (coded_picture p ∷ es) e = absurd cc
 
 -- one picture, and what follows it
 pub record OneRest (o : Option Sequence) (number : ℕ) (own : Events) (q : Picture) (es : Events) (ns : List Numbered) : Type 0 where
@@ -104,7 +98,7 @@ none_left n b (p ∷ ps) es e one turns = absurd (omega (arith, e, one))
 pub none_numbered : (o : Option Sequence) (group : ℕ) (first_in_group : Bool) (number frames : ℕ) (own rest es : Events) → es ≡ own ++ rest → rest ≡ [] → pictures_in own ≡ [] → numbered o group first_in_group number frames es ≡ []
 none_numbered o group first_in_group number frames own rest es are none e =
     ap (numbered o group first_in_group number frames) (are ∙ ap (λ (l : Events). own ++ l) none ∙ append-nil own)
-    ∙ no_numbered o group first_in_group number frames own e
+    ∙ numbered_none o group first_in_group number frames own e
 
 -- ---- the first piece
 

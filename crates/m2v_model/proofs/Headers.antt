@@ -18,6 +18,7 @@ use Rattle.m2v_model.specs.Faults.{InUnit}
 use Rattle.m2v_model.specs.Looking.{number_from, look, looking}
 use Rattle.m2v_model.specs.Units.{Units, inside}
 use Rattle.m2v_model.specs.Headers.{whole_header, size_of, size_at, sequence_extension_in, is_f_code, uses_forward, uses_backward, f_code_at, f_codes_at, is_structure, picture_extension_in}
+use Rattle.m2v_model.specs.Plain.{plain_sequence_extension}
 use Rattle.m2v_model.specs.Streams.{id_at, extension_in}
 use Rattle.m2v_model.specs.Texts.{ended, unit_bytes}
 use Rattle.m2v_model.proofs.Units.{ended_bits}
@@ -54,22 +55,7 @@ extension_in_stands s own start t v us below id same h = (
 
 -- ---- sequence extensions
 
--- the extension where the higher bits of all numbers are 0
-abbrev pub plain : ℕ → Bool → SequenceExtension
-plain profile progressive = record {
-  profile_and_level = profile;
-  progressive_sequence = progressive;
-  chroma_format = 1;
-  horizontal_ext = 0;
-  vertical_ext = 0;
-  bit_rate_ext = 0;
-  vbv_ext = 0;
-  low_delay = false;
-  rate_n = 0;
-  rate_d = 0;
-}
-
-plain_fits : (profile : ℕ) (progressive : Bool) → profile < 2 ^ 8 → SequenceExtensionFits (plain profile progressive)
+plain_fits : (profile : ℕ) (progressive : Bool) → profile < 2 ^ 8 → SequenceExtensionFits (plain_sequence_extension profile progressive)
 plain_fits profile progressive small = record {
   profile_and_level = small;
   chroma_format = refl;
@@ -89,10 +75,10 @@ size_most n most le = le-leb (size_of n 0) most (omega (arith, le))
 
 plain_looks : (profile : ℕ) (progressive : Bool) (info : SequenceInfo) → profile < 2 ^ 8
     → 1 ≤ info.horizontal_size → info.horizontal_size ≤ 1920 → 1 ≤ info.vertical_size → info.vertical_size ≤ 1152
-    → (sequence_extension_in info).Stands (plain profile progressive) (ended (sequence_extension_text (plain profile progressive))) (behind (sequence_extension_text (plain profile progressive)))
+    → (sequence_extension_in info).Stands (plain_sequence_extension profile progressive) (ended (sequence_extension_text (plain_sequence_extension profile progressive))) (behind (sequence_extension_text (plain_sequence_extension profile progressive)))
 unfolding sequence_extension_in size_at seq here look number_from rule renamed ended sequence_extension_text rates_text bits_of number
 plain_looks profile progressive info small wide width tall height =
-    let x = plain profile progressive in
+    let x = plain_sequence_extension profile progressive in
     let t = ended (sequence_extension_text x) in
     let rest = behind (sequence_extension_text x) in (
       length t,
@@ -129,9 +115,9 @@ plain_looks profile progressive info small wide width tall height =
 -- it stands behind a sequence header of a size that is read
 pub plain_stands : (profile : ℕ) (progressive : Bool) (info : SequenceInfo) → profile < 2 ^ 8
     → 1 ≤ info.horizontal_size → info.horizontal_size ≤ 1920 → 1 ≤ info.vertical_size → info.vertical_size ≤ 1152
-    → (whole_header (sequence_extension_in info)).Stands (plain profile progressive) (ended (sequence_extension_text (plain profile progressive))) []
+    → (whole_header (sequence_extension_in info)).Stands (plain_sequence_extension profile progressive) (ended (sequence_extension_text (plain_sequence_extension profile progressive))) []
 plain_stands profile progressive info small wide width tall height =
-    whole_stands (sequence_extension_in info) (sequence_extension_text (plain profile progressive)) (plain profile progressive)
+    whole_stands (sequence_extension_in info) (sequence_extension_text (plain_sequence_extension profile progressive)) (plain_sequence_extension profile progressive)
     (plain_looks profile progressive info small wide width tall height)
 
 -- ---- picture coding extensions

@@ -3,6 +3,7 @@ pub mod Looking
 pub mod Faults
 pub mod Stops
 pub mod Headers
+pub mod Plain
 pub mod States
 pub mod Modes
 pub mod Slices

@@ -73,21 +73,27 @@ abbrev pub references_for : State → ℕ → ℕ → List Bool
 references_for st kind structure =
     has_forward st kind structure 1 ∷ has_forward st kind structure 2 ∷ has_backward st kind ∷ has_backward st kind ∷ []
 
--- a picture that begins here
-abbrev pub opened : State → PictureInfo → PictureExtension → Open
-opened st info extension = record {
+-- a picture that begins: whether it is a second field, is dropped, and has slices that stay unread; and its references
+abbrev pub begun_open : PictureInfo → PictureExtension → Bool → Bool → Bool → List Bool → Open
+begun_open info extension second_field dropped slices_unread references = record {
   info = info;
   extension = extension;
-  second_field = is_some st.waiting;
-  dropped = drops st info.kind;
-  slices_unread = st.headers_only || drops st info.kind;
-  references = references_for st info.kind extension.structure;
+  second_field = second_field;
+  dropped = dropped;
+  slices_unread = slices_unread;
+  references = references;
   has_slice = false;
   row = 0;
   covered = 0;
   large_macroblocks = 0;
   crowded_row = 0;
 }
+
+-- one that begins here
+abbrev pub opened : State → PictureInfo → PictureExtension → Open
+opened st info extension =
+    begun_open info extension (is_some st.waiting) (drops st info.kind) (st.headers_only || drops st info.kind)
+    (references_for st info.kind extension.structure)
 
 -- how many large macroblocks the first row has that has more than two, or 0: a row above, or this one
 abbrev pub crowded_by : Open → ℕ

@@ -34,8 +34,8 @@ returns-in-Ok-false-clause-ok g c =
     let r = rw (c.new-auditor.ensures, c.place-start.ensures.value, c.in-Ok-false.field-0-test) at c.in-Ok-false.ensures.ok in
     λ n room.
     ended_text g.S.Source.left g.S.Source.faults g.K.Sink.held g.K.Sink.faults n c.args.asked.now c.args.later c.args.so_far.now (cutting_of c.args.feed.now) room c.requires.begun c.requires.ended _ _ _ _ _ _ _ _ _ r c.in-Ok-false.ensures.going
-    c.in_ok-finish-in-Ok-false.ensures.grown (ap (λ (t : TotalRecord). record c.args.so_far.now { totals = t }) c.in_ok-finish-in-Ok-false.ensures.totals)
-    c.in_ok-finish-in-Ok-false.ensures.asked
+    c.in_ok-finish-in-Ok-false.ensures.grown (ap (λ (t : TotalRecord). record c.args.so_far.now { totals = t }) (rw c.in_ok-finish-in-Ok-false.ensures.auditor at c.count.ensures.totals))
+    (rw c.in_ok-finish-in-Ok-false.ensures.auditor at c.count.ensures.asked)
 
 pub returns-in_err-ending-in-Err-clause-err : goal.returns-in_err-ending-in-Err-clause-err
 returns-in_err-ending-in-Err-clause-err g c =
@@ -57,5 +57,5 @@ returns-clause-ok g c =
     let s = rw (c.new-auditor.ensures, c.place-start.ensures.value) at c.in-Err.ensures.err in
     rw c.is_fault.ensures (λ n room.
     stopped_text g.S.Source.left g.S.Source.faults g.K.Sink.held g.K.Sink.faults n c.args.asked.now c.args.later c.args.so_far.now (cutting_of c.args.feed.now) room c.requires.begun c.requires.ended _ _ _ _ _ _ _ _ _ c.in-Err.e c.in_ok-ending-in-Err.ending (sym c.in_ok-ending-in-Err.ensures) s
-    c.in_ok-stop-in-Err.ensures.grown (ap₂ (λ (t : TotalRecord) (e : Ending). record { totals = t; ending = e }) c.in_ok-stop-in-Err.ensures.totals c.or-so_far.ensures)
-    c.in_ok-stop-in-Err.ensures.asked)
+    c.in_ok-stop-in-Err.ensures.grown (ap₂ (λ (t : TotalRecord) (e : Ending). record { totals = t; ending = e }) (rw c.in_ok-stop-in-Err.ensures.auditor at c.count-in-Err.ensures.totals) c.or-so_far.ensures)
+    (rw c.in_ok-stop-in-Err.ensures.auditor at c.count-in-Err.ensures.asked))
