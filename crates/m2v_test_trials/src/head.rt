@@ -29,11 +29,14 @@ const ZIGZAG_FROM_1: [u8; 64] = [
     60, 53, 46, 39, 32, 40, 47, 54, 61, 62, 55, 48, 56, 63, 64,
 ];
 
-const RASTER_FROM_1: [u8; 64] = [
-    1, 2, 3, 4, 5, 6, 7, 8, 9, 10, 11, 12, 13, 14, 15, 16, 17, 18, 19, 20, 21, 22, 23, 24, 25, 26,
-    27, 28, 29, 30, 31, 32, 33, 34, 35, 36, 37, 38, 39, 40, 41, 42, 43, 44, 45, 46, 47, 48, 49, 50,
-    51, 52, 53, 54, 55, 56, 57, 58, 59, 60, 61, 62, 63, 64,
-];
+/// The same numbers in raster order.
+fn raster_from_1() -> [u8; 64] {
+    let mut raster = [0; 64];
+    for i in 0..64 {
+        raster[i] = (i + 1) as u8;
+    }
+    raster
+}
 
 #[test]
 fn a_matrix_extension_both_ways(rt: HostRuntime) -> Result<(), AllocError> {
@@ -41,7 +44,7 @@ fn a_matrix_extension_both_ways(rt: HostRuntime) -> Result<(), AllocError> {
         intra: None,
         non_intra: None,
         chroma_intra: None,
-        chroma_non_intra: Some(RASTER_FROM_1),
+        chroma_non_intra: Some(raster_from_1()),
     };
     let mut bytes = [0x31; 65];
     bytes[1..].copy_from_slice(&ZIGZAG_FROM_1);

@@ -1,10 +1,10 @@
 // Whole runs.
-ghost use Rattle.std.specs.Prelude.{◌<◌, ◌≤◌};
+ghost use Rattle.std.specs.Prelude.{◌≡◌, ◌<◌, ◌≤◌};
 
 use crate::books::{Chain, Pair};
 use m2v_board::{Gate, OpenGate};
-use m2v_core::Memory;
-use m2v_wave::{Bench, run_jobs};
+use m2v_core::{JobBook, Memory};
+use m2v_wave::{Bench, Done, run_jobs};
 use std::alloc::Global;
 use std::hint::spin_loop;
 use std::process::Abort;
@@ -12,6 +12,13 @@ use std::sync::Wait;
 use std::sync::atomic::{AtomicU64, Ordering};
 use std::test::Fail;
 use std::thread::Threads;
+
+// The pieces of a book of three jobs.
+fn pieces<B: JobBook<Piece = u64>>(done: &Done<B>) -> [u64; 3]
+    requires { B.jobs done.now ≡ 3 }
+{
+    [*done.piece(0), *done.piece(1), *done.piece(2)]
+}
 
 // The three jobs of the chain, whose values are 0, 1 and 3.
 fn run_chain<R: Abort + Threads + Wait + Sync>(
@@ -23,9 +30,7 @@ fn run_chain<R: Abort + Threads + Wait + Sync>(
 {
     let bench = Bench::for_book(alloc, &Chain, workers)?;
     let done = run_jobs(rt, &Chain, bench, &OpenGate);
-    assert_eq!(rt; *done.piece(0), 0);
-    assert_eq!(rt; *done.piece(1), 1);
-    assert_eq!(rt; *done.piece(2), 3);
+    assert_eq!(rt; pieces(&done), [0, 1, 3]);
     Ok(())
 }
 
@@ -152,9 +157,7 @@ fn run_pair<R: Abort + Threads + Wait + Sync>(rt: &R, alloc: Global) -> Result<(
     let gate = Meeting::new();
     let done = run_jobs(rt, &Pair, bench, &gate);
     check_meeting(rt, &gate);
-    assert_eq!(rt; *done.piece(0), 5);
-    assert_eq!(rt; *done.piece(1), 8);
-    assert_eq!(rt; *done.piece(2), 11);
+    assert_eq!(rt; pieces(&done), [5, 8, 11]);
     Ok(())
 }
 

@@ -36,18 +36,39 @@ data Kind : Type 0 where
   unpacks : Kind
   codes_texts : Kind
 
+-- what the words of a command say
+abbrev Payload : Kind → Type 0
+Payload flats = FlatWords
+Payload encodes = EncodeWords
+Payload decodes = ℕ
+Payload checks = Unit {0}
+Payload audits = Asked
+Payload mends = MendWords
+Payload makes = ℕ
+Payload cuts = CutWords
+Payload packs = Y4mHeader
+Payload unpacks = Unit {0}
+Payload codes_texts = EncodeWords
+
+-- a command's kind, and what its words say
+abbrev parts : Command → (k : Kind) × Payload k
+parts (Flat w) = (flats, w)
+parts (Encode w) = (encodes, w)
+parts (Decode workers) = (decodes, workers)
+parts Check = (checks, tt)
+parts (Audit w) = (audits, w)
+parts (Mend w) = (mends, w)
+parts (Make seed) = (makes, seed)
+parts (Cut w) = (cuts, w)
+parts (Pack h) = (packs, h)
+parts Unpack = (unpacks, tt)
+parts (EncodeY4m w) = (codes_texts, w)
+
 abbrev kind_of : Command → Kind
-kind_of (Flat w) = flats
-kind_of (Encode w) = encodes
-kind_of (Decode workers) = decodes
-kind_of Check = checks
-kind_of (Audit w) = audits
-kind_of (Mend w) = mends
-kind_of (Make seed) = makes
-kind_of (Cut w) = cuts
-kind_of (Pack h) = packs
-kind_of Unpack = unpacks
-kind_of (EncodeY4m w) = codes_texts
+kind_of c = (parts c).0
+
+abbrev payload : (c : Command) → Payload (kind_of c)
+payload c = (parts c).1
 
 -- the kind by the word that names the command
 abbrev kind_named : Text → Kind
@@ -76,33 +97,6 @@ by_name name others (Cut w) m = ap kind_named m.0
 by_name name others (Pack h) m = ap kind_named m.0
 by_name name others Unpack m = ap kind_named m.0
 by_name name others (EncodeY4m w) m = ap kind_named m.0
-
--- what the words of a command say
-abbrev Payload : Kind → Type 0
-Payload flats = FlatWords
-Payload encodes = EncodeWords
-Payload decodes = ℕ
-Payload checks = Unit {0}
-Payload audits = Asked
-Payload mends = MendWords
-Payload makes = ℕ
-Payload cuts = CutWords
-Payload packs = Y4mHeader
-Payload unpacks = Unit {0}
-Payload codes_texts = EncodeWords
-
-abbrev payload : (c : Command) → Payload (kind_of c)
-payload (Flat w) = w
-payload (Encode w) = w
-payload (Decode workers) = workers
-payload Check = tt
-payload (Audit w) = w
-payload (Mend w) = w
-payload (Make seed) = seed
-payload (Cut w) = w
-payload (Pack h) = h
-payload Unpack = tt
-payload (EncodeY4m w) = w
 
 -- the command that says it
 abbrev command_of : (k : Kind) → Payload k → Command

@@ -21,7 +21,7 @@ use Rattle.m2v_audit.specs.declared.asked.Asked.{Asked}
 use Rattle.m2v_tool.specs.declared.audit.AuditOutcome.{AuditOutcome}
 use Rattle.m2v_tool.specs.declared.audit.AuditOutcome.TheVariants.{Reported, Stopped}
 use Rattle.m2v_tool.specs.Simple.{simple, text_option, flag_option, taken, flag}
-use Rattle.m2v_tool.specs.Endings.{Ending, Told, Success, stream_fault, ending_past}
+use Rattle.m2v_tool.specs.Endings.{Ending, with_figures, Told, Success, stream_fault, ending_past}
 use Rattle.m2v_tool.specs.Decoding.{decoding_stopped}
 use Rattle.m2v_tool.specs.Runs.{Run, Yields, NoneFailed, Succeeds}
 
@@ -69,19 +69,15 @@ AuditComes w left held (Stopped e) = Fails w left held e
 
 -- of an input in which nothing was found, and of one in which something was
 unfoldable pub clean_ending : TotalRecord → Ending
-clean_ending t = record {
-  status = 0;
-  texts = codes "clean sequences " ∷ codes " pictures " ∷ codes " bytes " ∷ codes " warnings " ∷ [];
-  numbers = t.sequences ∷ t.pictures ∷ t.bytes ∷ t.warnings ∷ [];
-}
+clean_ending t = with_figures 0
+    ((codes "clean sequences ", t.sequences) ∷ (codes " pictures ", t.pictures)
+    ∷ (codes " bytes ", t.bytes) ∷ (codes " warnings ", t.warnings) ∷ [])
 
 unfoldable pub found_ending : TotalRecord → Ending
-found_ending t = record {
-  status = 18;
-  texts = codes "found sequences " ∷ codes " pictures " ∷ codes " bytes " ∷ codes " breaches "
-      ∷ codes " failures " ∷ codes " warnings " ∷ [];
-  numbers = t.sequences ∷ t.pictures ∷ t.bytes ∷ t.breaches ∷ t.failures ∷ t.warnings ∷ [];
-}
+found_ending t = with_figures 18
+    ((codes "found sequences ", t.sequences) ∷ (codes " pictures ", t.pictures)
+    ∷ (codes " bytes ", t.bytes) ∷ (codes " breaches ", t.breaches)
+    ∷ (codes " failures ", t.failures) ∷ (codes " warnings ", t.warnings) ∷ [])
 
 -- of one that was read to its end: warnings are no finding
 unfoldable pub whole_ending : TotalRecord → Ending

@@ -15,7 +15,7 @@ use Rattle.m2v_make.specs.m2v_check.Meaning.{IsLawful, IsVariable, Means}
 use Rattle.m2v_make.specs.m2v_check.Answers.{IsJudged, IsOver, Fails}
 use Rattle.m2v_tool.specs.declared.check.CheckOutcome.{CheckOutcome}
 use Rattle.m2v_tool.specs.declared.check.CheckOutcome.TheVariants.{Judged, Stopped}
-use Rattle.m2v_tool.specs.Endings.{Ending, Told, Success, stream_fault, ending_past}
+use Rattle.m2v_tool.specs.Endings.{Ending, with_figures, Told, Success, stream_fault, ending_past}
 use Rattle.m2v_tool.specs.Decoding.{decoding_stopped}
 use Rattle.m2v_tool.specs.Runs.{Run, Yields, NoneFailed, Succeeds}
 
@@ -28,43 +28,33 @@ CheckComes left (Stopped e) = Fails left e
 
 -- of a stream that breaks no rule and that the buffer bears
 unfoldable pub lawful_ending : Figures → Ending
-lawful_ending f = record {
-  status = 0;
-  texts = codes "lawful frames " ∷ codes " pictures " ∷ codes " bytes " ∷ codes " low "
-      ∷ codes " high " ∷ codes " delays " ∷ [];
-  numbers = f.frames ∷ f.pictures ∷ f.bytes ∷ f.low ∷ f.high ∷ f.delays ∷ [];
-}
+lawful_ending f = with_figures 0
+    ((codes "lawful frames ", f.frames) ∷ (codes " pictures ", f.pictures)
+    ∷ (codes " bytes ", f.bytes) ∷ (codes " low ", f.low) ∷ (codes " high ", f.high)
+    ∷ (codes " delays ", f.delays) ∷ [])
 
 -- of one that breaks no rule and whose rate is variable
 unfoldable pub variable_ending : Figures → Ending
-variable_ending f = record {
-  status = 0;
-  texts = codes "variable frames " ∷ codes " pictures " ∷ codes " bytes " ∷ [];
-  numbers = f.frames ∷ f.pictures ∷ f.bytes ∷ [];
-}
+variable_ending f = with_figures 0
+    ((codes "variable frames ", f.frames) ∷ (codes " pictures ", f.pictures)
+    ∷ (codes " bytes ", f.bytes) ∷ [])
 
 -- of one whose account fails so
 unfoldable pub account_ending : AccountFault → Ending
-account_ending (Under picture have need) = record {
-  status = 11;
-  texts = codes "buffer under picture " ∷ codes " have " ∷ codes " need " ∷ [];
-  numbers = picture ∷ have ∷ need ∷ [];
-}
-account_ending (Over picture have size) = record {
-  status = 11;
-  texts = codes "buffer over picture " ∷ codes " have " ∷ codes " need " ∷ [];
-  numbers = picture ∷ have ∷ size ∷ [];
-}
+account_ending (Under picture have need) = with_figures 11
+    ((codes "buffer under picture ", picture) ∷ (codes " have ", have) ∷ (codes " need ", need)
+    ∷ [])
+account_ending (Over picture have size) = with_figures 11
+    ((codes "buffer over picture ", picture) ∷ (codes " have ", have) ∷ (codes " need ", size)
+    ∷ [])
 
 -- of a verdict
 unfoldable pub verdict_ending : Verdict → Ending
 verdict_ending (verdicts.Lawful f) = lawful_ending f
 verdict_ending (verdicts.Variable f) = variable_ending f
-verdict_ending (verdicts.Unlawful rule picture have need) = record {
-  status = 10;
-  texts = codes "unlawful rule " ∷ codes " picture " ∷ codes " have " ∷ codes " need " ∷ [];
-  numbers = rule ∷ picture ∷ have ∷ need ∷ [];
-}
+verdict_ending (verdicts.Unlawful rule picture have need) = with_figures 10
+    ((codes "unlawful rule ", rule) ∷ (codes " picture ", picture) ∷ (codes " have ", have)
+    ∷ (codes " need ", need) ∷ [])
 verdict_ending (verdicts.Buffer fault) = account_ending fault
 
 -- of each outcome

@@ -14,12 +14,13 @@ use Rattle.m2v_tool.specs.Words.{Means, NoCommand}
 use Rattle.m2v_tool.specs.Runs.{Run, Work, work_of, IsUntouched, RefusedBy}
 use Rattle.m2v_tool.specs.Endings.{Ending, Told, usage, no_memory}
 use Rattle.m2v_tool.specs.Coding.{FlatKeeps}
-use Rattle.m2v_tool.specs.EncodeWords.{words_of}
+pub use Rattle.m2v_tool.specs.EncodeWords.{words_of}
 use Rattle.m2v_tool.specs.Encoding.{EncodeKeeps}
 use Rattle.m2v_tool.specs.Decoding.{DecodeKeeps}
 use Rattle.m2v_tool.specs.Checking.{CheckKeeps}
 use Rattle.m2v_tool.specs.Auditing.{AuditKeeps}
-use Rattle.m2v_tool.specs.Mending.{list_named, MendKeeps}
+use Rattle.m2v_tool.specs.Mending.{MendKeeps}
+pub use Rattle.m2v_tool.specs.Mending.{list_named}
 use Rattle.m2v_tool.specs.Making.{MakeKeeps}
 use Rattle.m2v_tool.specs.Cutting.{CutKeeps}
 use Rattle.m2v_tool.specs.Y4mCoding.{Y4mKeeps}

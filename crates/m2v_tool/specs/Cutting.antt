@@ -17,7 +17,7 @@ use Rattle.m2v_tool.specs.declared.cut.CutWords.{CutWords}
 use Rattle.m2v_tool.specs.declared.cut.CutOutcome.{CutOutcome}
 use Rattle.m2v_tool.specs.declared.cut.CutOutcome.TheVariants.{Done, NoneAsked, Stopped}
 use Rattle.m2v_tool.specs.Simple.{simple, number_word, required, taken}
-use Rattle.m2v_tool.specs.Endings.{Ending, Told, Success, line_of, numbered, read_fault, write_fault, no_memory, unfit_ending, ending_past}
+use Rattle.m2v_tool.specs.Endings.{Ending, with_figures, Told, Success, line_of, numbered, read_fault, write_fault, no_memory, unfit_ending, ending_past}
 use Rattle.m2v_tool.specs.Runs.{Run, Yields, RefusedBy, NoneFailed, Succeeds}
 
 -- ---- words
@@ -51,11 +51,7 @@ CutComes w left held (Stopped e) = (1 ≤ w.count) × Fails w.from w.count left 
 
 -- of a stream that has too few groups, and of a group that needs what stands before it
 abbrev pub no_group : ℕ → ℕ → Ending
-no_group have need = record {
-  status = 16;
-  texts = codes "no group have " ∷ codes " need " ∷ [];
-  numbers = have ∷ need ∷ [];
-}
+no_group have need = with_figures 16 ((codes "no group have ", have) ∷ (codes " need ", need) ∷ [])
 
 abbrev pub not_cuttable : ℕ → Ending
 not_cuttable place = numbered 17 (codes "not cuttable at bit ") place
@@ -72,11 +68,7 @@ cutting_stopped errors.Memory = no_memory
 
 -- of a cut with these numbers
 unfoldable pub cut_out_ending : CutSummary → Ending
-cut_out_ending s = record {
-  status = 0;
-  texts = codes "groups " ∷ codes " bytes " ∷ [];
-  numbers = s.groups ∷ s.bytes ∷ [];
-}
+cut_out_ending s = with_figures 0 ((codes "groups ", s.groups) ∷ (codes " bytes ", s.bytes) ∷ [])
 
 -- of each outcome
 unfoldable pub cut_ending : CutOutcome → Ending

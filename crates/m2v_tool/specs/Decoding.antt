@@ -19,7 +19,7 @@ use Rattle.m2v_cut.specs.m2v_decode.Complete.{IsUnderLimits, IsLate, IsPast, cou
 use Rattle.m2v_tool.specs.declared.decode.DecodeOutcome.{DecodeOutcome}
 use Rattle.m2v_tool.specs.declared.decode.DecodeOutcome.TheVariants.{Shown, Unfit as NotFit, Stopped}
 use Rattle.m2v_tool.specs.Simple.{simple, number_option, number_or, taken}
-use Rattle.m2v_tool.specs.Endings.{Ending, Told, Success, line_of, read_fault, write_fault, no_memory, unfit_ending, stream_fault, ending_past}
+use Rattle.m2v_tool.specs.Endings.{Ending, with_figures, Told, Success, line_of, read_fault, write_fault, no_memory, unfit_ending, stream_fault, ending_past}
 use Rattle.m2v_tool.specs.Runs.{Run, Yields, RefusedBy, NoneFailed, Succeeds}
 
 -- ---- words
@@ -70,11 +70,9 @@ decoding_stopped errors.Memory = no_memory
 
 -- the ending of a stream with these numbers, and that of each outcome
 unfoldable pub shown_ending : Decoded → Ending
-shown_ending d = record {
-  status = 0;
-  texts = codes "frames " ∷ codes " pictures " ∷ codes " dropped " ∷ [];
-  numbers = d.frames ∷ d.pictures ∷ d.dropped ∷ [];
-}
+shown_ending d = with_figures 0
+    ((codes "frames ", d.frames) ∷ (codes " pictures ", d.pictures)
+    ∷ (codes " dropped ", d.dropped) ∷ [])
 
 unfoldable pub decode_ending : DecodeOutcome → Ending
 decode_ending (Shown d) = shown_ending d

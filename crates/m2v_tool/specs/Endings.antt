@@ -1,5 +1,5 @@
 -- How the program ends: a status and a line on report, and what is put on report of it.
-use Rattle.std.specs.Prelude.{ℕ, ◌≡◌, ◌⊎◌, ◌==◌, List, [], ◌∷◌, ◌++◌, codes, decimal, if◌then◌else◌}
+use Rattle.std.specs.Prelude.{ℕ, ◌≡◌, ◌⊎◌, ◌==◌, List, [], ◌∷◌, ◌++◌, codes, decimal, map, if◌then◌else◌}
 use Rattle.m2v_port.specs.Ends.{Change}
 use Rattle.m2v_port.specs.Port.{Grows, GrowsByPrefix}
 use Rattle.m2v_port.specs.declared.error.PortError.{PortError}
@@ -54,6 +54,14 @@ pub record Success {O : Type 0} (Is : O → Type 0) (ending : O → Ending) (rep
 abbrev pub plain : ℕ → List ℕ → Ending
 plain status text = record { status = status; texts = text ∷ []; numbers = [] }
 
+-- one of texts, each with a number behind it
+abbrev pub with_figures : ℕ → List (List ℕ × ℕ) → Ending
+with_figures status figures = record {
+  status = status;
+  texts = map (λ f. f.0) figures;
+  numbers = map (λ f. f.1) figures;
+}
+
 -- one with a number behind its text
 abbrev pub numbered : ℕ → List ℕ → ℕ → Ending
 numbered status text number = record { status = status; texts = text ∷ []; numbers = number ∷ [] }
@@ -77,11 +85,8 @@ unopened_ending calls.Memory = no_memory
 
 -- settings that don't pass: the first condition that fails
 unfoldable pub unfit_ending : Unfit → Ending
-unfit_ending u = record {
-  status = 3;
-  texts = codes "unfit rule " ∷ codes " have " ∷ codes " need " ∷ [];
-  numbers = u.rule ∷ u.have ∷ u.need ∷ [];
-}
+unfit_ending u = with_figures 3
+    ((codes "unfit rule ", u.rule) ∷ (codes " have ", u.have) ∷ (codes " need ", u.need) ∷ [])
 
 -- raw frames that end inside one, of which there are so many bytes; that are none; and of which there are too many
 abbrev pub short_frame : ℕ → Ending
@@ -95,11 +100,9 @@ too_many_frames = plain 6 (codes "too many frames")
 
 -- of a stream that was coded, with these numbers
 abbrev pub coded_ending : ℕ → ℕ → ℕ → ℕ → Ending
-coded_ending frames pictures bytes stuffing = record {
-  status = 0;
-  texts = codes "frames " ∷ codes " pictures " ∷ codes " bytes " ∷ codes " stuffing " ∷ [];
-  numbers = frames ∷ pictures ∷ bytes ∷ stuffing ∷ [];
-}
+coded_ending frames pictures bytes stuffing = with_figures 0
+    ((codes "frames ", frames) ∷ (codes " pictures ", pictures) ∷ (codes " bytes ", bytes)
+    ∷ (codes " stuffing ", stuffing) ∷ [])
 
 -- of a stream that passes this limit
 unfoldable pub ending_past : Limit → Ending

@@ -12,7 +12,7 @@ use Rattle.m2v_make.specs.Making.{Makes, MakeStops}
 use Rattle.m2v_tool.specs.declared.make.MakeOutcome.{MakeOutcome}
 use Rattle.m2v_tool.specs.declared.make.MakeOutcome.TheVariants.{Done, Stopped}
 use Rattle.m2v_tool.specs.Simple.{simple, taken, unsigned}
-use Rattle.m2v_tool.specs.Endings.{Ending, Success, write_fault, no_memory}
+use Rattle.m2v_tool.specs.Endings.{Ending, with_figures, Success, write_fault, no_memory}
 use Rattle.m2v_tool.specs.Runs.{Run, Succeeds}
 
 -- ---- words
@@ -47,12 +47,10 @@ MakeComes seed held (Stopped e) = MakeStops seed held e
 
 -- of a stream with these numbers
 unfoldable pub made_ending : ℕ → Made → Ending
-made_ending seed m = record {
-  status = 0;
-  texts = codes "make seed " ∷ codes " frames 48 bytes " ∷ codes " stuffing "
-      ∷ codes " low " ∷ codes " high " ∷ codes " delays " ∷ [];
-  numbers = seed ∷ m.bytes ∷ m.stuffing ∷ m.low ∷ m.high ∷ m.delays ∷ [];
-}
+made_ending seed m = with_figures 0
+    ((codes "make seed ", seed) ∷ (codes " frames 48 bytes ", m.bytes)
+    ∷ (codes " stuffing ", m.stuffing) ∷ (codes " low ", m.low) ∷ (codes " high ", m.high)
+    ∷ (codes " delays ", m.delays) ∷ [])
 
 -- of a stream that wasn't made
 unfoldable pub making_stopped : MakeError → Ending

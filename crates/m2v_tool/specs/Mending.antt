@@ -22,7 +22,7 @@ use Rattle.m2v_tool.specs.declared.mend.MendWords.{MendWords}
 use Rattle.m2v_tool.specs.declared.mend.MendOutcome.{MendOutcome}
 use Rattle.m2v_tool.specs.declared.mend.MendOutcome.TheVariants.{Mended, Unopened, Stopped}
 use Rattle.m2v_tool.specs.Simple.{simple, text_option, taken}
-use Rattle.m2v_tool.specs.Endings.{Ending, Told, Success, numbered, read_fault, write_fault, no_memory, unopened_ending, ending_past}
+use Rattle.m2v_tool.specs.Endings.{Ending, with_figures, Told, Success, numbered, read_fault, write_fault, no_memory, unopened_ending, ending_past}
 use Rattle.m2v_tool.specs.Runs.{Run, Work, work_of, Yields, NoneFailed, Succeeds}
 use Rattle.m2v_tool.specs.Places.{recon_by, Stands, Shut}
 
@@ -67,16 +67,11 @@ MendComes name k (Stopped e) = MendStopped name k e
 
 -- of an answer: no picture was left out, some were, or nothing was kept
 unfoldable pub told_ending : told.Answer → Ending
-told_ending (all_kept groups pictures bytes) = record {
-  status = 0;
-  texts = codes "groups " ∷ codes " pictures " ∷ codes " bytes " ∷ [];
-  numbers = groups ∷ pictures ∷ bytes ∷ [];
-}
-told_ending (some_kept groups of_groups pictures of_pictures bytes) = record {
-  status = 18;
-  texts = codes "groups " ∷ codes " of " ∷ codes " pictures " ∷ codes " of " ∷ codes " bytes " ∷ [];
-  numbers = groups ∷ of_groups ∷ pictures ∷ of_pictures ∷ bytes ∷ [];
-}
+told_ending (all_kept groups pictures bytes) = with_figures 0
+    ((codes "groups ", groups) ∷ (codes " pictures ", pictures) ∷ (codes " bytes ", bytes) ∷ [])
+told_ending (some_kept groups of_groups pictures of_pictures bytes) = with_figures 18
+    ((codes "groups ", groups) ∷ (codes " of ", of_groups) ∷ (codes " pictures ", pictures)
+    ∷ (codes " of ", of_pictures) ∷ (codes " bytes ", bytes) ∷ [])
 told_ending (none_kept fault) =
     numbered 19 ((codes "nothing kept stream " ++ fault_word fault.0) ++ codes " at bit ") fault.1
 

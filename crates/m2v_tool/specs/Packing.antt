@@ -24,7 +24,7 @@ use Rattle.m2v_tool.specs.declared.pack.PackOutcome.TheVariants as packs
 use Rattle.m2v_tool.specs.declared.unpack.UnpackOutcome.{UnpackOutcome}
 use Rattle.m2v_tool.specs.declared.unpack.UnpackOutcome.TheVariants as unpacks
 use Rattle.m2v_tool.specs.Simple.{simple, number_word, flag_option, required, flag, taken}
-use Rattle.m2v_tool.specs.Endings.{Ending, Told, Success, line_of, numbered, read_fault, write_fault, no_memory, unfit_ending, short_frame, too_many_frames}
+use Rattle.m2v_tool.specs.Endings.{Ending, with_figures, Told, Success, line_of, numbered, read_fault, write_fault, no_memory, unfit_ending, short_frame, too_many_frames}
 use Rattle.m2v_tool.specs.Inputs.{AreFew, EndInside}
 use Rattle.m2v_tool.specs.Runs.{Run, Yields, RefusedBy, NoneFailed, Succeeds}
 
@@ -68,11 +68,7 @@ y4m_fault f = numbered 15 ((codes "y4m fault " ++ kind_name f.kind) ++ codes " a
 
 -- of frames that were packed or unpacked
 unfoldable pub packed_ending : PackSummary → Ending
-packed_ending s = record {
-  status = 0;
-  texts = codes "frames " ∷ codes " bytes " ∷ [];
-  numbers = s.frames ∷ s.bytes ∷ [];
-}
+packed_ending s = with_figures 0 ((codes "frames ", s.frames) ∷ (codes " bytes ", s.bytes) ∷ [])
 
 -- of raw frames that weren't packed to their end, and of a text that wasn't unpacked to its end
 unfoldable pub packing_stopped : EncodeFault → Ending

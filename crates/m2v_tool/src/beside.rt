@@ -3,12 +3,10 @@ ghost use Rattle.std.specs.Prelude.{◌≡◌, ◌≤◌, Some, None, length, Is
 ghost use Rattle.m2v_port.specs.Ends.{change, SinkStays};
 ghost use Rattle.m2v_y4m.specs.Rules.{IsHeader};
 ghost use Rattle.m2v_y4m.specs.Sources.{most_ahead};
-ghost use Rattle.m2v_tool.specs.EncodeWords.{words_of};
-ghost use Rattle.m2v_tool.specs.Mending.{list_named};
 ghost use Rattle.m2v_tool.specs.Runs.{worked};
 ghost use Rattle.m2v_tool.specs.Y4mWords.{with_header};
 ghost use Rattle.m2v_tool.specs.Y4mCoding.{FramesCome, read_behind};
-ghost use Rattle.m2v_tool.specs.Commands.{EncodeComes, MendComes, Y4mComes};
+ghost use Rattle.m2v_tool.specs.Commands.{EncodeComes, MendComes, Y4mComes, list_named, words_of};
 
 use crate::encode::{EncodeOutcome, EncodeWords};
 use crate::encode_y4m::Y4mOutcome;
