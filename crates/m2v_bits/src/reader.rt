@@ -1,4 +1,4 @@
-ghost use Rattle.std.specs.Prelude.{◌≡◌, ℕ, ◌+◌, ◌-◌, ◌*◌, ◌/◌, ◌%◌, ◌^◌, ◌<◌, ◌≤◌, ◌++◌, ◌∷◌, [], length, take, drop, slice_index, ◌↔◌, IsNone, IsSome, IfSome, IsTrue, replicate, false};
+ghost use Rattle.std.specs.Prelude.{◌≡◌, ℕ, ◌+◌, ◌-◌, ◌*◌, ◌/◌, ◌%◌, ◌^◌, ◌<◌, ◌≤◌, ◌++◌, ◌∷◌, [], length, take, drop, slice_index, ◌↔◌, IsNone, not, IsSome, IfSome, IsTrue, replicate, false};
 ghost use Rattle.m2v_bits.specs.Bits.{Unread, IsSound, bits, bits_of, number, ahead, past, all_zero, first_one, padded};
 
 use crate::low::low;
@@ -198,15 +198,8 @@ impl<'a> BitReader<'a> {
     fn is_zero_throughout(&self) -> bool
         ensures { result ≡ all_zero self.now.rest }
     {
-        let mut ahead = self.fork();
-        while ahead.left() > self.zeros {
-            let n = (ahead.left() - self.zeros).min(32) as u8;
-            if ahead.peek(n) != 0 {
-                return false;
-            }
-            ahead.skip(n);
-        }
-        true
+        let (_, found) = self.past_zeros();
+        !found
     }
 
     /// Another reader at the same bit, for a place before the one that is read to.
@@ -228,25 +221,26 @@ impl<'a> BitReader<'a> {
         ensures within { result ≤ length self.now.rest }
         ensures text { result ≤ length self.now.text }
     {
-        let near = self.past_zeros();
+        let (near, _) = self.past_zeros();
         near.left_from_near_one()
     }
 
-    /// Another reader of the same text, behind zero bits, 32 at a time.
-    fn past_zeros(&self) -> BitReader<'a>
-        ensures text { result.text ≡ self.now.text }
-        ensures one { first_one result.rest ≡ first_one self.now.rest }
-        ensures within { length result.rest ≤ length self.now.rest }
+    /// Another reader of the same text, behind zero bits, 32 at a time, and whether a 1 is left.
+    fn past_zeros(&self) -> (BitReader<'a>, bool)
+        ensures text { result.0.text ≡ self.now.text }
+        ensures one { first_one result.0.rest ≡ first_one self.now.rest }
+        ensures within { length result.0.rest ≤ length self.now.rest }
+        ensures found { all_zero self.now.rest ≡ not result.1 }
     {
         let mut ahead = self.fork();
         while ahead.left() > self.zeros {
             let n = (ahead.left() - self.zeros).min(32) as u8;
             if ahead.peek(n) != 0 {
-                return ahead;
+                return (ahead, true);
             }
             ahead.skip(n);
         }
-        ahead
+        (ahead, false)
     }
 
     /// How many bits are left from the first 1 on, bit by bit.

@@ -2,7 +2,6 @@
 ghost use Rattle.std.specs.Prelude.{◌≡◌, ◌+◌, ◌≤◌, ◌<◌, ◌^◌, ◌++◌, length};
 ghost use Rattle.m2v_bits.specs.Outputs.{Gains};
 ghost use Rattle.m2v_macro.specs.Conditions.{IsReady, IsAddress, IsMacro};
-ghost use Rattle.m2v_macro.specs.States.{after};
 ghost use Rattle.m2v_macroblock.specs.Macroblocks.{macroblock_of, after_macroblock};
 ghost use Rattle.m2v_macroblock.specs.Texts.{block_in_text, blocks_text, text_written};
 ghost use Rattle.m2v_macroblock.specs.Conditions.{IsPicture, AreDc, AreBlocks, AreWritable};
@@ -60,34 +59,10 @@ fn put_blocks<O: BitOutput>(
     }
 }
 
-/// Appends a macroblock with its coded blocks, between the state before it and the one behind its elements.
-#[tactic(auto, using(m2v_bits::proofs::Cursor::lengths), unfolding(crate::specs::Texts::macroblock_text))]
-fn put_macroblock<O: BitOutput>(
-    x: &MacroSyntax,
-    levels: &[Levels; 6],
-    context: &PictureContext,
-    state: &SliceState,
-    behind: &SliceState,
-    out: &mut O,
-)
-    requires picture { IsPicture context.now }
-    requires state { IsReady context.now state.now }
-    requires dc { AreDc context.now.extension.dc_precision state.now.dc }
-    requires fits { IsMacro context.now state.now x.now }
-    requires blocks { AreBlocks context.now state.now (macroblock_of x.now levels.now) }
-    requires behind { behind.now ≡ after context.now state.now x.now }
-    requires room { length (text_written context.now state.now x.now levels.now) ≤ O.space out.old }
-    ensures { Gains O.took O.space out.old (text_written context.now state.now x.now levels.now)
-        out.new }
-{
-    put_macro(x, context, state, out);
-    put_blocks(x, levels, context, behind, out);
-}
-
 /// Appends a macroblock with its coded blocks (clauses 6.2.5 and 6.2.6), and leaves the state behind it. The levels are
 /// those of the six blocks in scan order, four of luma, Cb and Cr; blocks that aren't coded aren't looked at, but for the
 /// DC level that the next luma block of an intra macroblock goes by.
-#[tactic(auto, unfolding(crate::specs::Macroblocks::after_macroblock))]
+#[tactic(auto, using(m2v_bits::proofs::Cursor::lengths), unfolding(crate::specs::Macroblocks::after_macroblock, crate::specs::Texts::macroblock_text))]
 pub fn write_macroblock(
     x: &MacroSyntax,
     levels: &[Levels; 6],
@@ -111,8 +86,10 @@ pub fn write_macroblock(
     ensures ready { IsReady context.now state.new }
     ensures dc { AreDc context.now.extension.dc_precision state.new.dc }
 {
-    let behind = state.after(context, x);
-    put_macroblock(x, levels, context, state, &behind, out);
-    *state = behind;
+    let next = state.after(context, x);
+    let behind = &next;
+    put_macro(x, context, state, out);
+    put_blocks(x, levels, context, behind, out);
+    *state = next;
     state.dc = dc_after(x.kind.intra, levels, state.dc);
 }

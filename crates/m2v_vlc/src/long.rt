@@ -5,7 +5,7 @@ ghost use Rattle.m2v_vlc.specs.declared.longest.TheConstants.{LONGEST};
 
 use crate::longest::LONGEST;
 use crate::one_long::ONE_LONG;
-use crate::short::entry_at;
+use crate::short::{by_table, entry_at};
 use crate::values::ShortPair;
 use crate::zero_long::ZERO_LONG;
 
@@ -32,11 +32,7 @@ pub fn long_pair(one: bool, seventeen: u32) -> &'static ShortPair
     ensures stands { result.now.1 < 64
         → Stands 17 (if one then coefficient_one else coefficient_zero) seventeen result.now }
 {
-    if one {
-        long_at(&ONE_LONG, seventeen)
-    } else {
-        long_at(&ZERO_LONG, seventeen)
-    }
+    long_at(by_table(one, &ONE_LONG, &ZERO_LONG), seventeen)
 }
 
 /// The same by table B.14 at the first coefficient of a block that is not intra, which has the same long codes.

@@ -1,4 +1,4 @@
-ghost use Rattle.std.specs.Prelude.{◌≡◌, ◌<◌, ◌≤◌, if◌then◌else◌, length, slice_index_or};
+ghost use Rattle.std.specs.Prelude.{◌≡◌, ◌<◌, ◌≤◌, true, false, if◌then◌else◌, length, slice_index_or};
 ghost use Rattle.m2v_vlc.specs.Coefficients.{coefficient_zero, coefficient_one, first_zero};
 ghost use Rattle.m2v_vlc.specs.Shorts.{Stands, Ends, nothing};
 
@@ -11,6 +11,15 @@ static FIRST_PLUS: ShortPair = (1, 0, 2);
 
 /// Run 0 and level -1 as the first coefficient of a block that is not intra.
 static FIRST_MINUS: ShortPair = (-1, 0, 2);
+
+/// What table B.15 has where `one`, and else what table B.14 has.
+#[inline(always)]
+pub fn by_table<T>(one: bool, of_one: &'static T, of_zero: &'static T) -> &'static T
+    ensures yes { one ≡ true → result.now ≡ of_one.now }
+    ensures no { one ≡ false → result.now ≡ of_zero.now }
+{
+    if one { of_one } else { of_zero }
+}
 
 /// What a look-up holds at i.
 #[inline(always)]
@@ -31,11 +40,7 @@ pub fn short_pair(one: bool, nine: u32) -> &'static ShortPair
     ensures ends { result.now.1 ≡ 128
         → Ends 9 (if one then coefficient_one else coefficient_zero) nine result.now }
 {
-    if one {
-        entry_at(&ONE_SHORT, nine)
-    } else {
-        entry_at(&ZERO_SHORT, nine)
-    }
+    entry_at(by_table(one, &ONE_SHORT, &ZERO_SHORT), nine)
 }
 
 /// Run 0 and level 1 or -1, which a 1 begins where it is the first coefficient.
