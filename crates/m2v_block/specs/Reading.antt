@@ -2,17 +2,16 @@
 use Rattle.std.specs.Prelude.{◌≡◌, ℕ, ◌<◌, ◌≤◌, Bool, true, List, All, IfOk, IfSome, IsNone, Option, Result, Ok, slice_index_or, ℤ, pos}
 use Rattle.m2v_bits.specs.Bits.{Unread}
 use Rattle.m2v_bits.specs.Syntax.{Gives}
-use Rattle.m2v_quant.specs.declared.kind.BlockKind.{BlockKind}
 use Rattle.m2v_quant.specs.Kinds.{IsLevel}
 use Rattle.m2v_quant.specs.Sparse.{IsClearFrom}
 use Rattle.m2v_block.specs.declared.fault.BlockFault.{BlockFault}
 use Rattle.m2v_block.specs.Blocks.{IsDc, dc_at, pair_at, pairs_at, GivesScan, GivesEnd}
 
 -- the DC level of an intra block was read
-pub record ReadsDc (kind : BlockKind) (predictor : ℤ) (old new : Unread) (result : Result ℤ BlockFault) : Type 0 where
-  pub exact : Gives result new.rest ((dc_at kind.luma kind.precision predictor).read old.rest)
+pub record ReadsDc (luma : Bool) (precision : ℕ) (predictor : ℤ) (old new : Unread) (result : Result ℤ BlockFault) : Type 0 where
+  pub exact : Gives result new.rest ((dc_at luma precision predictor).read old.rest)
   pub text : new.text ≡ old.text
-  pub range : IfOk result (λ v. IsDc kind.precision v)
+  pub range : IfOk result (λ v. IsDc precision v)
 
 -- n places are filled, and what stands from there on is 0
 pub record IsFilled (n : ℕ) (at : List ℤ) : Type 0 where

@@ -248,7 +248,7 @@ fn first(input: &mut BitReader, kind: &BlockKind, predictor: i32) -> Result<i32,
     ensures none { kind.now.intra ≡ false → IfOk result (λ v. v ≡ pos 0) }
 {
     if kind.intra {
-        dc(input, kind, predictor)
+        dc(input, kind.luma, kind.precision, predictor)
     } else {
         Ok(0)
     }

@@ -2,7 +2,7 @@
 ghost use Rattle.std.specs.Prelude.{◌≡◌, ◌^◌, ◌<◌, ◌≤◌, Bool, true, List, IfOk, IfSome, IsNone, OnErr, Ok};
 ghost use Rattle.m2v_bits.specs.Syntax.{Gives};
 ghost use Rattle.m2v_bits.specs.Leaves.{bits_at};
-ghost use Rattle.m2v_quant.specs.Kinds.{IsKind, IsLevel};
+ghost use Rattle.m2v_quant.specs.Kinds.{IsLevel};
 ghost use Rattle.m2v_block.specs.Faults.{cut};
 ghost use Rattle.m2v_block.specs.Blocks.{difference, IsDc, is_dc, size_at, dc_at};
 ghost use Rattle.m2v_block.specs.Reading.{ReadsDc};
@@ -10,7 +10,6 @@ ghost use Rattle.m2v_block.specs.Reading.{ReadsDc};
 use crate::fault::BlockFault;
 use crate::fault::BlockFault::{Code, DcRange};
 use m2v_bits::{BitReader, check, number};
-use m2v_quant::BlockKind;
 use m2v_vlc::CodeFault::Truncated;
 use m2v_vlc::{read_dc_chroma, read_dc_luma};
 
@@ -106,28 +105,38 @@ fn quick_dc(input: &mut BitReader, luma: bool, precision: u8, predictor: i32) ->
 #[cold]
 #[inline(never)]
 #[tactic(auto, unfolding(crate::specs::Blocks::dc_at, m2v_bits::specs::Syntax::seq, m2v_bits::specs::Syntax::bind, m2v_bits::specs::Syntax::here, m2v_bits::specs::Syntax::rule, m2v_bits::specs::Syntax::done))]
-fn far_dc(input: &mut BitReader, kind: &BlockKind, predictor: i32) -> Result<i32, BlockFault>
-    requires kind { IsKind kind.now }
-    requires predictor { IsDc kind.now.precision predictor }
-    ensures { ReadsDc kind.now predictor input.old input.new result }
+fn far_dc(
+    input: &mut BitReader,
+    luma: bool,
+    precision: u8,
+    predictor: i32,
+) -> Result<i32, BlockFault>
+    requires precision { precision ≤ 3 }
+    requires predictor { IsDc precision predictor }
+    ensures { ReadsDc luma precision predictor input.old input.new result }
 {
     let start = input.fork();
-    let size = size(input, kind.luma)?;
+    let size = size(input, luma)?;
     let bits = number(input, size, Code(Truncated))?;
     let level = predictor + difference(size, bits);
-    check(input, &start, is_dc(kind.precision, level), DcRange)?;
+    check(input, &start, is_dc(precision, level), DcRange)?;
     Ok(level)
 }
 
 /// Reads the DC level of an intra block: by one look in most cases.
 #[inline(always)]
-pub fn dc(input: &mut BitReader, kind: &BlockKind, predictor: i32) -> Result<i32, BlockFault>
-    requires kind { IsKind kind.now }
-    requires predictor { IsDc kind.now.precision predictor }
-    ensures { ReadsDc kind.now predictor input.old input.new result }
+pub fn dc(
+    input: &mut BitReader,
+    luma: bool,
+    precision: u8,
+    predictor: i32,
+) -> Result<i32, BlockFault>
+    requires precision { precision ≤ 3 }
+    requires predictor { IsDc precision predictor }
+    ensures { ReadsDc luma precision predictor input.old input.new result }
 {
-    if let Some(level) = quick_dc(input, kind.luma, kind.precision, predictor) {
+    if let Some(level) = quick_dc(input, luma, precision, predictor) {
         return Ok(level);
     }
-    far_dc(input, kind, predictor)
+    far_dc(input, luma, precision, predictor)
 }
