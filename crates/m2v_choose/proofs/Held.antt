@@ -1,5 +1,5 @@
 -- How many bits hold takes.
-use Rattle.std.proofs.Common.{◌≡◌, ℕ, ◌+◌, ◌-◌, ◌*◌, ◌<◌, ◌≤◌, Bool, true, false, ◌&&◌, ◌||◌, not, List, [], ◌∷◌, ◌++◌, length, refl, ap, ◌∙◌, arith, inl, inr, ℤ, pos, negsuc, neg_ℤ, ◌≤ℤ◌, ◌-ℤ◌, unsigned_abs, replicate, map}
+use Rattle.std.proofs.Common.{◌≡◌, ℕ, ◌+◌, ◌-◌, ◌*◌, ◌<◌, ◌≤◌, Bool, true, false, cond, ◌&&◌, ◌||◌, not, List, [], ◌∷◌, ◌++◌, length, refl, ap, ◌∙◌, arith, inl, inr, ℤ, pos, negsuc, neg_ℤ, ◌≤ℤ◌, ◌-ℤ◌, unsigned_abs, replicate, map}
 use Rattle.std.specs.Prelude.{nat_eq, if◌then◌else◌, slice_index, slice_index_or}
 use Rattle.std.specs.List.{range_with_len, flat_map}
 use Rattle.std.proofs.lemmas.Int.{ints}
@@ -164,59 +164,40 @@ form_bits : (c : PictureContext) (k : MbType) (form : ℕ) → length (form_text
 unfolding form_text bits_of
 form_bits c k form = told_bits (has_form c k) (bits_of 2 form) 2 (omega arith)
 
--- ---- P pictures
+-- ---- P pictures, and B pictures where the flag is true
 
-abbrev held_p : PictureContext → ℕ → MacroSyntax
-held_p c n = macro_of n (kind 0 1 0 0 0) (plain_form c) false 0 (still_vector c) no_vectors 0
+abbrev held_as : Bool → PictureContext → ℕ → MacroSyntax
+held_as false c n = macro_of n (kind 0 1 0 0 0) (plain_form c) false 0 (still_vector c) no_vectors 0
+held_as true c n = macro_of n (kind 0 0 1 0 0) (plain_form c) false 0 no_vectors (still_vector c) 0
 
-hold_p : (d : Decision) → d.context.kind ≡ 2 → hold d ≡ written (held_p d.context (increment_of d)) no_levels
+hold_as : (back : Bool) (d : Decision) → d.context.kind ≡ cond back 3 2 → hold d ≡ written (held_as back d.context (increment_of d)) no_levels
 unfolding hold uncoded_syntax still_prediction
-hold_p d e = rw e refl
+hold_as false d e = rw e refl
+hold_as true d e = rw e refl
 
-type_p_bits : (c : PictureContext) → c.kind ≡ 2 → length (kind_text c.kind (kind 0 1 0 0 0)) ≡ 3
-unfolding kind_text type_p code_of bits_of
-type_p_bits c e = rw e refl
+type_bits : (back : Bool) (c : PictureContext) (n : ℕ) → c.kind ≡ cond back 3 2 → length (kind_text c.kind (held_as back c n).kind) ≡ 3
+unfolding kind_text type_p type_b code_of bits_of
+type_bits false c n e = rw e refl
+type_bits true c n e = rw e refl
 
-codes_p : (c : PictureContext) → IsOwn c → c.kind ≡ 2 → f_codes_of c 0 ≡ 2 ∷ 2 ∷ []
-codes_p c own e = rw own.f_code (rw e refl)
+codes_as : (back : Bool) (c : PictureContext) → IsOwn c → c.kind ≡ cond back 3 2 → f_codes_of c (cond back 1 0) ≡ 2 ∷ 2 ∷ []
+codes_as false c own e = rw own.f_code (rw e refl)
+codes_as true c own e = rw own.f_code (rw e refl)
 
-rest_p : (c : PictureContext) (st : SliceState) (n : ℕ)
-    → length (quantiser_text (held_p c n).kind 0) + length (backward_text c st (held_p c n)) + length (marker_text c (held_p c n).kind) + length (pattern_text (held_p c n).kind 0) ≡ 0
+rest_as : (back : Bool) (c : PictureContext) (st : SliceState) (n : ℕ) → (let m = held_as back c n in
+    length (quantiser_text m.kind 0) + length (cond back (forward_text c st m) (backward_text c st m)) + length (marker_text c m.kind) + length (pattern_text m.kind 0) ≡ 0)
 unfolding quantiser_text direction_text marker_text pattern_text
-rest_p c st n = refl
+rest_as false c st n = refl
+rest_as true c st n = refl
 
-macro_p : (c : PictureContext) (st : SliceState) (n : ℕ) → IsOwn c → AreNear st.pmv.at → c.kind ≡ 2
-    → length (macro_text c st (held_p c n)) ≤ length (increment_text n) + 30
-macro_p c st n own near e =
-    let m = held_p c n in
-    omega (arith, macro_bits c st m, modes_bits c m, type_p_bits c e, form_bits c m.kind m.form, ap length (uncoded_dct c m.kind refl refl), direction_bits c (f_codes_of c 0) (pmv_before c st n) 0 (codes_p c own e) (forward_near c st n near), rest_p c st n)
-
--- ---- B pictures
-
-abbrev held_b : PictureContext → ℕ → MacroSyntax
-held_b c n = macro_of n (kind 0 0 1 0 0) (plain_form c) false 0 no_vectors (still_vector c) 0
-
-hold_b : (d : Decision) → d.context.kind ≡ 3 → hold d ≡ written (held_b d.context (increment_of d)) no_levels
-unfolding hold uncoded_syntax still_prediction
-hold_b d e = rw e refl
-
-type_b_bits : (c : PictureContext) → c.kind ≡ 3 → length (kind_text c.kind (kind 0 0 1 0 0)) ≡ 3
-unfolding kind_text type_b code_of bits_of
-type_b_bits c e = rw e refl
-
-codes_b : (c : PictureContext) → IsOwn c → c.kind ≡ 3 → f_codes_of c 1 ≡ 2 ∷ 2 ∷ []
-codes_b c own e = rw own.f_code (rw e refl)
-
-rest_b : (c : PictureContext) (st : SliceState) (n : ℕ)
-    → length (quantiser_text (held_b c n).kind 0) + length (forward_text c st (held_b c n)) + length (marker_text c (held_b c n).kind) + length (pattern_text (held_b c n).kind 0) ≡ 0
-unfolding quantiser_text direction_text marker_text pattern_text
-rest_b c st n = refl
-
-macro_b : (c : PictureContext) (st : SliceState) (n : ℕ) → IsOwn c → AreNear st.pmv.at → c.kind ≡ 3
-    → length (macro_text c st (held_b c n)) ≤ length (increment_text n) + 30
-macro_b c st n own near e =
-    let m = held_b c n in
-    omega (arith, macro_bits c st m, modes_bits c m, type_b_bits c e, form_bits c m.kind m.form, ap length (uncoded_dct c m.kind refl refl), direction_bits c (f_codes_of c 1) (pmv_before c st n) 1 (codes_b c own e) (backward_near c st n near), rest_b c st n)
+macro_as : (back : Bool) (c : PictureContext) (st : SliceState) (n : ℕ) → IsOwn c → AreNear st.pmv.at → c.kind ≡ cond back 3 2
+    → length (macro_text c st (held_as back c n)) ≤ length (increment_text n) + 30
+macro_as false c st n own near e =
+    let m = held_as false c n in
+    omega (arith, macro_bits c st m, modes_bits c m, type_bits false c n e, form_bits c m.kind m.form, ap length (uncoded_dct c m.kind refl refl), direction_bits c (f_codes_of c 0) (pmv_before c st n) 0 (codes_as false c own e) (forward_near c st n near), rest_as false c st n)
+macro_as true c st n own near e =
+    let m = held_as true c n in
+    omega (arith, macro_bits c st m, modes_bits c m, type_bits true c n e, form_bits c m.kind m.form, ap length (uncoded_dct c m.kind refl refl), direction_bits c (f_codes_of c 1) (pmv_before c st n) 1 (codes_as true c own e) (backward_near c st n near), rest_as true c st n)
 
 -- ---- both
 
@@ -233,10 +214,10 @@ uncoded_fits d m is none some most =
     rw is (omega (arith, most, macroblock_bits d.context d.state (record { syntax = m; levels = no_levels }), ap length (blocks_none d.context (after d.context d.state m) (record { syntax = m; levels = no_levels }) none), increment_bits (increment_of d) some))
 
 p_fits : (d : Decision) → IsOwn d.context → AreNear d.state.pmv.at → 0 < increment_of d → d.context.kind ≡ 2 → bits_taken d (hold d) ≤ 31 * increment_of d
-p_fits d own near some e = uncoded_fits d (held_p d.context (increment_of d)) (hold_p d e) refl some (macro_p d.context d.state (increment_of d) own near e)
+p_fits d own near some e = uncoded_fits d (held_as false d.context (increment_of d)) (hold_as false d e) refl some (macro_as false d.context d.state (increment_of d) own near e)
 
 b_fits : (d : Decision) → IsOwn d.context → AreNear d.state.pmv.at → 0 < increment_of d → d.context.kind ≡ 3 → bits_taken d (hold d) ≤ 31 * increment_of d
-b_fits d own near some e = uncoded_fits d (held_b d.context (increment_of d)) (hold_b d e) refl some (macro_b d.context d.state (increment_of d) own near e)
+b_fits d own near some e = uncoded_fits d (held_as true d.context (increment_of d)) (hold_as true d e) refl some (macro_as true d.context d.state (increment_of d) own near e)
 
 -- ---- I pictures
 

@@ -1,6 +1,7 @@
 //! How many bits the codings of a prediction take: what stands before their patterns is counted once for all.
 ghost use Rattle.std.specs.Prelude.{◌≡◌, ◌+◌, ◌*◌, ◌^◌, ◌≤◌, ◌<◌, ◌⊎◌, true, cond, length};
-ghost use Rattle.m2v_vlc.specs.Tables.{pattern_code, type_i_code, type_p_code, type_b_code};
+ghost use Rattle.m2v_vlc.specs.Lookups.{spelled};
+ghost use Rattle.m2v_vlc.specs.Tables.{pattern_code};
 ghost use Rattle.m2v_macro.specs.States.{after};
 ghost use Rattle.m2v_recon.specs.Macro.{is_coded as is_coded_in};
 ghost use Rattle.m2v_macroblock.specs.Macroblocks.{macroblock_of};
@@ -14,7 +15,7 @@ use m2v_macro::{MacroSyntax, macro_bits};
 use m2v_macroblock::block::other_bits;
 use m2v_quant::Levels;
 use m2v_recon::is_coded;
-use m2v_vlc::{MbType, code_pattern, code_type_b, code_type_i, code_type_p};
+use m2v_vlc::{Code, MbType, code_pattern, code_type_b, code_type_i, code_type_p};
 
 /// How many bits stand before the pattern of a macroblock that has a prediction and coded blocks.
 #[derive(Clone, Copy)]
@@ -36,44 +37,15 @@ pub struct KindBits {
     pub sent: u32,
 }
 
-/// How many bits a macroblock_type takes in an I picture.
+/// How many bits a code has.
 #[inline(always)]
 #[tactic(auto, using(m2v_bits::proofs::Cursor::lengths))]
-fn bits_i(v: MbType) -> u32
-    ensures value { result ≡ length (type_i_code v) }
+fn bits_in(code: Code) -> u32
+    requires width { code.len ≤ 17 }
+    ensures value { result ≡ length (spelled code) }
     ensures most { result ≤ 17 }
 {
-    code_type_i(v).len as u32
-}
-
-/// And in a P picture.
-#[inline(always)]
-#[tactic(auto, using(m2v_bits::proofs::Cursor::lengths))]
-fn bits_p(v: MbType) -> u32
-    ensures value { result ≡ length (type_p_code v) }
-    ensures most { result ≤ 17 }
-{
-    code_type_p(v).len as u32
-}
-
-/// And in a B picture.
-#[inline(always)]
-#[tactic(auto, using(m2v_bits::proofs::Cursor::lengths))]
-fn bits_b(v: MbType) -> u32
-    ensures value { result ≡ length (type_b_code v) }
-    ensures most { result ≤ 17 }
-{
-    code_type_b(v).len as u32
-}
-
-/// How many bits a coded block pattern takes.
-#[inline(always)]
-#[tactic(auto, using(m2v_bits::proofs::Cursor::lengths))]
-fn pattern_bits(pattern: u8) -> u32
-    ensures value { result ≡ length (pattern_code pattern) }
-    ensures most { result ≤ 17 }
-{
-    code_pattern(pattern).len as u32
+    code.len as u32
 }
 
 /// How many bits dct_type takes of a macroblock with blocks.
@@ -105,22 +77,22 @@ pub fn kind_bits(task: &Task, bare: &MacroSyntax) -> KindBits
     let kind = task.context.kind;
     if kind == 1 {
         return KindBits {
-            bare: bits_i(v),
-            kept: bits_i(kept),
-            sent: bits_i(sent),
+            bare: bits_in(code_type_i(v)),
+            kept: bits_in(code_type_i(kept)),
+            sent: bits_in(code_type_i(sent)),
         };
     }
     if kind == 2 {
         return KindBits {
-            bare: bits_p(v),
-            kept: bits_p(kept),
-            sent: bits_p(sent),
+            bare: bits_in(code_type_p(v)),
+            kept: bits_in(code_type_p(kept)),
+            sent: bits_in(code_type_p(sent)),
         };
     }
     KindBits {
-        bare: bits_b(v),
-        kept: bits_b(kept),
-        sent: bits_b(sent),
+        bare: bits_in(code_type_b(v)),
+        kept: bits_in(code_type_b(kept)),
+        sent: bits_in(code_type_b(sent)),
     }
 }
 
@@ -184,7 +156,7 @@ pub fn bits_before(headers: &Headers, send: bool, pattern: u8) -> u32
         ≡ cond send headers.now.sent headers.now.kept + length (pattern_code pattern) }
     ensures most { result ≤ 2 ^ 23 }
 {
-    before_pattern(headers, send) + pattern_bits(pattern)
+    before_pattern(headers, send) + bits_in(code_pattern(pattern))
 }
 
 /// At least so many bits the coded blocks of a pattern take: four each.

@@ -14,6 +14,7 @@ use lib.Dec.{T}
 use lib.Signed.{lt_z, non_neg}
 use native.Mathlib.Nat.{suc_inj}
 use Rattle.m2v_idct.specs.Ranges.{Within}
+use Rattle.m2v_idct.proofs.AllLanes.{both_are, both_asked, fits_short}
 use Rattle.m2v_idct.proofs.FourLanes.{zipped_within, sum_bound}
 use Rattle.m2v_recon.specs.Macro.{clamped}
 
@@ -37,7 +38,7 @@ pub passed_within : (n m : ℕ) (xs : List ℤ) → n < 2 ^ 15 → n ≤ m → A
 passed_within n m xs small le h =
     subst (All (Within m)) (sym (all_passed n xs small h)) (All-weaker (Within n) (Within m) (λ z w. (omega (arith, ints, le, w.0), omega (arith, ints, le, w.1))) xs h)
 
-abbrev sum : ℤ → ℤ → ℤ
+abbrev pub sum : ℤ → ℤ → ℤ
 sum a b = a +ℤ b
 
 bound : (a b : ℤ) → Within 255 a → Within 30000 b → Within 30255 (sum a b)
@@ -45,25 +46,11 @@ bound = sum_bound 255 30000 30255 (omega arith)
 
 pub sums_fit : (xs ys : List ℤ) → All (Within 255) xs → All (Within 30000) ys
     → Each2 (λ (a b : ℕ). SFits w16 (sum (to_z w16 a) (to_z w16 b))) (map (of_z w16) xs) (map (of_z w16) ys)
-sums_fit [] ys hx hy = tt
-sums_fit (x ∷ xs) [] hx hy = tt
-sums_fit (x ∷ xs) (y ∷ ys) hx hy =
-    let hx0 = All-head (Within 255) x xs hx in
-    let hy0 = All-head (Within 30000) y ys hy in (
-      rw (passed 255 x (omega arith) hx0, passed 30000 y (omega arith) hy0) (fits 30255 (sum x y) (omega arith) (bound x y hx0 hy0)),
-      sums_fit xs ys (All-tail (Within 255) x xs hx) (All-tail (Within 30000) y ys hy),
-    )
+sums_fit = both_asked w16 32767 fits_short 255 30000 30255 sum bound (omega arith) (omega arith) (omega arith)
 
 pub sums_are : (xs ys : List ℤ) → All (Within 255) xs → All (Within 30000) ys
     → map (to_z w16) (zip2 (λ (a b : ℕ). of_z w16 (sum (to_z w16 a) (to_z w16 b))) (map (of_z w16) xs) (map (of_z w16) ys)) ≡ zip2 sum xs ys
-sums_are [] ys hx hy = refl
-sums_are (x ∷ xs) [] hx hy = refl
-sums_are (x ∷ xs) (y ∷ ys) hx hy =
-    let hx0 = All-head (Within 255) x xs hx in
-    let hy0 = All-head (Within 30000) y ys hy in
-    let first : to_z w16 (of_z w16 (sum (to_z w16 (of_z w16 x)) (to_z w16 (of_z w16 y)))) ≡ sum x y =
-    rw (passed 255 x (omega arith) hx0, passed 30000 y (omega arith) hy0) (passed 30255 (sum x y) (omega arith) (bound x y hx0 hy0)) in
-    λ i. first i ∷ sums_are xs ys (All-tail (Within 255) x xs hx) (All-tail (Within 30000) y ys hy) i
+sums_are = both_are w16 32767 fits_short 255 30000 30255 sum bound (omega arith) (omega arith) (omega arith)
 
 pub sums_within : (xs ys : List ℤ) → All (Within 255) xs → All (Within 30000) ys → All (Within 30255) (zip2 sum xs ys)
 sums_within = zipped_within 255 30000 30255 sum bound (omega arith) (omega arith) (omega arith)
@@ -169,14 +156,12 @@ alone_at result line j len within is below =
     ap (λ (xs : List ℕ). get_or xs j 0) (is ∙ ap (map clamped) (all_passed 30000 line (omega arith) within))
     ∙ get_or-map clamped line j (pos 0) 0 (omega (arith, len))
 
-pub sum_at : (result : List ℕ) (sums samples line : List ℤ) (j : ℕ) → length samples ≡ 8 → length line ≡ 8
-    → All (Within 255) samples → All (Within 30000) line → All (Within 30255) sums
-    → sums ≡ zip2 sum (again samples) (again line) → result ≡ map clamped (again sums)
+pub sum_at : (result : List ℕ) (samples line : List ℤ) (j : ℕ) → length samples ≡ 8 → length line ≡ 8
+    → All (Within 255) samples → All (Within 30000) line → result ≡ map clamped (zip2 sum (again samples) (again line))
     → j < 8 → get_or result j 0 ≡ clamped (get_or samples j (pos 0) +ℤ get_or line j (pos 0))
-sum_at result sums samples line j long len known within low are is below =
-    let added : sums ≡ zip2 sum samples line =
-    are ∙ (λ i. zip2 sum (all_passed 255 samples (omega arith) known i) (all_passed 30000 line (omega arith) within i)) in
-    let all : length sums ≡ 8 = ap length added ∙ length-zip2 sum samples line (long ∙ sym len) ∙ long in
-    ap (λ (xs : List ℕ). get_or xs j 0) (is ∙ ap (map clamped) (all_passed 30255 sums (omega arith) low))
+sum_at result samples line j long len known within is below =
+    let sums = zip2 sum samples line in
+    let all : length sums ≡ 8 = length-zip2 sum samples line (long ∙ sym len) ∙ long in
+    ap (λ (xs : List ℕ). get_or xs j 0) (is ∙ (λ i. map clamped (zip2 sum (all_passed 255 samples (omega arith) known i) (all_passed 30000 line (omega arith) within i))))
     ∙ get_or-map clamped sums j (pos 0) 0 (omega (arith, all))
-    ∙ ap clamped (ap (λ (xs : List ℤ). get_or xs j (pos 0)) added ∙ get_or-zip2 sum samples line j (pos 0) (pos 0) (pos 0) (omega (arith, long)) (omega (arith, len)))
+    ∙ ap clamped (get_or-zip2 sum samples line j (pos 0) (pos 0) (pos 0) (omega (arith, long)) (omega (arith, len)))

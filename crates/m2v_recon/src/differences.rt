@@ -8,7 +8,7 @@ ghost use Rattle.m2v_idct.specs.Ranges.{Within};
 ghost use Rattle.m2v_recon.specs.Macro.{clamped, is_coded};
 ghost use Rattle.m2v_recon.specs.Steps.{luma_line, luma_place, rebuilt, AddsBlock, AreRebuilt};
 
-use crate::lanes::{eight_differences, eight_samples, nearest, plus};
+use crate::lanes::{eight_differences, eight_samples, nearest, nearest_sums};
 use m2v_idct::inverse_by_rows;
 use m2v_quant::{BlockKind, BlockLevels};
 use std::simd::prelude::*;
@@ -71,7 +71,7 @@ fn eight_sums<const INTRA: bool>(
         return nearest(differences).to_array();
     }
     let samples = i16x8::from_array(eight_samples(samples, from));
-    nearest(plus(samples, differences)).to_array()
+    nearest_sums(samples, differences).to_array()
 }
 
 /// Eight samples, put by one move.

@@ -45,17 +45,6 @@ pub fn eight_samples(samples: &[u8], from: usize) -> [i16; 8]
     line
 }
 
-/// Samples and what is added to them.
-#[inline(always)]
-pub fn plus(x: i16x8, y: i16x8) -> i16x8
-    requires x { All (Within 255) x }
-    requires y { All (Within 30000) y }
-    ensures value { result ≡ zip2 (λ a b. a +ℤ b) x y }
-    ensures within { All (Within 30255) result }
-{
-    x.strict_add(y)
-}
-
 /// The nearest numbers from 0 to 255.
 #[inline(always)]
 pub fn nearest(x: i16x8) -> u8x8
@@ -65,4 +54,16 @@ pub fn nearest(x: i16x8) -> u8x8
 {
     x.simd_clamp(i16x8::splat(0), i16x8::splat(255))
         .cast::<u8>()
+}
+
+/// The same of samples with what is added to them.
+#[inline(always)]
+pub fn nearest_sums(x: i16x8, y: i16x8) -> u8x8
+    requires len { (length x ≡ 8) × (length y ≡ 8) }
+    requires x { All (Within 255) x }
+    requires y { All (Within 30000) y }
+    ensures { result ≡ map clamped (zip2 (λ a b. a +ℤ b) x y) }
+{
+    let sums = x.strict_add(y);
+    nearest(sums)
 }
