@@ -55,7 +55,7 @@ place_is s low_delay frames number raw below =
     ∙ place_from 0 number frames (omega arith) (omega (arith, below))
     ∙ omega arith
 
--- ---- rule by rule
+-- ---- rule by rule; I pictures have no vectors
 
 reference_none : (s : FlatSettings) (low_delay : Bool) (frames : List (List ℕ)) (number : ℕ) (raw : List ℕ) → number < length frames
     → reference_rule low_delay (counted_from s 0 frames) (counted s number raw) ≡ []
@@ -64,19 +64,6 @@ reference_none s low_delay frames number raw below =
     rw (place_is s low_delay frames number raw below) (judge_none _ _ (eq-eqb (number % 1024) (number % 1024) refl))
 
 module _ (s : FlatSettings) (number : ℕ) (raw : List ℕ) where
-  -- I pictures have no vectors
-  horizontal_none : horizontal_rule (counted s number raw) ≡ []
-  unfolding horizontal_rule
-  horizontal_none = refl
-
-  vertical_none : vertical_rule (counted s number raw) ≡ []
-  unfolding vertical_rule
-  vertical_none = refl
-
-  intra_none : intra_rule (counted s number raw) ≡ []
-  unfolding intra_rule
-  intra_none = refl
-
   crowd_none : crowd_rule (counted s number raw) ≡ []
   unfolding crowd_rule
   crowd_none = most_none 12 number 0 2 (omega arith)
@@ -86,28 +73,15 @@ module _ (s : FlatSettings) (number : ℕ) (raw : List ℕ) where
   repeat_none true = refl
   repeat_none false = refl
 
-  progressive_none : progressive_rule (counted s number raw) ≡ []
-  unfolding progressive_rule
-  progressive_none = refl
-
   precision_none : precision_rule (counted s number raw) ≡ []
   unfolding precision_rule
   precision_none = most_none 15 number 0 2 (omega arith)
 
 picture_none : (s : FlatSettings) (low_delay constant : Bool) (frames : List (List ℕ)) (number : ℕ) (raw : List ℕ) → number < length frames
     → picture_breaches low_delay constant (counted_from s 0 frames) (counted s number raw) ≡ []
-unfolding picture_breaches
+unfolding picture_breaches horizontal_rule vertical_rule intra_rule progressive_rule
 picture_none s low_delay constant frames number raw below =
-    rw (
-      horizontal_none s number raw,
-      vertical_none s number raw,
-      intra_none s number raw,
-      reference_none s low_delay frames number raw below,
-      crowd_none s number raw,
-      repeat_none s number raw constant,
-      progressive_none s number raw,
-      precision_none s number raw,
-    )
+    rw (reference_none s low_delay frames number raw below, crowd_none s number raw, repeat_none s number raw constant, precision_none s number raw)
     refl
 
 -- ---- the pictures of a stream

@@ -1,13 +1,13 @@
 -- What follows for settings that passed the flat profile's part of the test.
-use Rattle.std.proofs.Common.{ℕ, ◌≤◌, sym, ◌∙◌, ap, arith}
+use Rattle.std.proofs.Common.{ℕ, ◌*◌, ◌≤◌, sym, ◌∙◌, ap, arith}
 use Rattle.std.proofs.lemmas.Bool.{leb-true}
 use Rattle.m2v_plane.specs.declared.dims.Dims.{Dims}
 use Rattle.m2v_set.specs.declared.settings.Scan.TheVariants.{Progressive}
 use Rattle.m2v_set.specs.declared.settings.Level.TheVariants.{Main}
-use Rattle.m2v_set.specs.Numbers.{limits_of}
-use Rattle.m2v_set.specs.Rules.{is_progressive, frame_rules, quantiser_rules, FlatPasses}
+use Rattle.m2v_set.specs.Numbers.{limits_of, frame_time}
+use Rattle.m2v_set.specs.Rules.{is_progressive, quantiser_rules, FlatPasses}
 use Rattle.m2v_set.proofs.Judged.{flat_in_turn}
-use Rattle.m2v_set.proofs.Facts.{and_then-first, and_then-next, all_hold}
+use Rattle.m2v_set.proofs.Facts.{and_then-first, and_then-next, all_hold, in_frame}
 use Rattle.m2v_flat.specs.declared.settings.FlatSettings.{FlatSettings}
 use Rattle.m2v_flat.specs.Answers.{HasPassed}
 
@@ -19,22 +19,24 @@ pub record InBounds (width height code quantiser : ℕ) : Type 0 where
   pub height_most : height ≤ 576
   pub code_least : 1 ≤ code
   pub code_most : code ≤ 5
+  pub luma : 720000 * width * height ≤ 10368000 * frame_time code
   pub quantiser_least : 1 ≤ quantiser
   pub quantiser_most : quantiser ≤ 31
 
 pub in_bounds : (width height code quantiser : ℕ) → FlatPasses width height code quantiser → InBounds width height code quantiser
-unfolding frame_rules quantiser_rules limits_of is_progressive
+unfolding quantiser_rules limits_of is_progressive
 in_bounds width height code quantiser passes =
     let parts = sym (flat_in_turn width height code quantiser) ∙ passes in
-    let h = all_hold (frame_rules (limits_of Main) Progressive width height code) (and_then-first _ _ parts) in
+    let f = in_frame (limits_of Main) Progressive width height code (and_then-first _ _ parts) in
     let q = all_hold (quantiser_rules quantiser) (and_then-next _ _ parts) in
     record {
-      width_least = leb-true _ _ h.0;
-      width_most = leb-true _ _ h.1.0;
-      height_least = leb-true _ _ h.1.1.1.0;
-      height_most = leb-true _ _ h.1.1.1.1.0;
-      code_least = leb-true _ _ h.1.1.1.1.1.1.0;
-      code_most = leb-true _ _ h.1.1.1.1.1.1.1.0;
+      width_least = f.wide;
+      width_most = f.width;
+      height_least = f.tall;
+      height_most = f.height;
+      code_least = f.code;
+      code_most = f.codes;
+      luma = f.luma;
       quantiser_least = leb-true _ _ q.0;
       quantiser_most = leb-true _ _ q.1.0;
     }

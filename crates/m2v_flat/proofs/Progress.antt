@@ -7,7 +7,7 @@ use Rattle.std.proofs.lemmas.List.Elements.{All-append, All-cons, All-nil}
 use Rattle.m2v_bits.specs.Bits.{packed, start_code}
 use Rattle.m2v_port.specs.Ends.{Change, change}
 use Rattle.m2v_port.specs.Port.{Moves, Grows, GrowsByPrefix}
-use Rattle.m2v_port.proofs.Runs.{rose_since, moves_on, moves_nothing, grows_on, grows_by_nothing, grows_by_all, prefix_on, prefix_of_more}
+use Rattle.m2v_port.proofs.Runs.{rose_since, moves_on, moves_nothing, then_nothing, grows_on, grows_by_nothing, grows_by_all, prefix_on, prefix_of_more}
 use Rattle.m2v_plane.specs.declared.dims.Dims.{Dims}
 use Rattle.m2v_plane.specs.Sizes.{IsSize}
 use Rattle.m2v_plane.specs.Raw.{frame_bytes, raw}
@@ -65,17 +65,10 @@ end_size : (s : FlatSettings) (frames : List (List ℕ)) (bytes : ℕ) → 0 < l
 end_size s [] bytes some is = absurd (omega arith)
 end_size s (f ∷ frames) bytes some is = omega (arith, ap length (bytes_end s f frames), length-append (FlatBegun s (f ∷ frames)) (packed (start_code 0xB7)), is)
 
-no_part : (frames : List (List ℕ)) (l0 l1 : Option (List ℕ)) → Moves l0 (raw frames) l1 → Moves l0 (raw frames ++ []) l1
-no_part frames l0 l1 moved = subst (λ (b : List ℕ). Moves l0 b l1) (sym (append-nil (raw frames))) moved
-
-then_nothing : (bytes : List ℕ) (l0 l1 l2 : Option (List ℕ)) → Moves l0 bytes l1 → Moves l1 [] l2 → Moves l0 bytes l2
-then_nothing bytes l0 l1 l2 first second = subst (λ (b : List ℕ). Moves l0 b l2) (append-nil bytes) (moves_on first second)
-
 empty_list : (frames : List (List ℕ)) → length frames ≡ 0 → raw frames ≡ []
 empty_list [] none = refl
 empty_list (f ∷ frames) none = absurd (omega arith)
 
--- The input's states are i0, i1 and so on, the output's o0, o1.
 module _ {S K : Type 0} (left : S → Option (List ℕ)) (input_faults : S → ℕ) (held : K → Option (List ℕ)) (output_faults : K → ℕ) where
   abbrev input : S → S → Change
   input = change left input_faults
@@ -144,7 +137,7 @@ module _ {S K : Type 0} (left : S → Option (List ℕ)) (input_faults : S → �
         most = omega (arith, count);
         whole = whole_more s.dims before.frames f before.whole next.whole;
         less = some_bytes s.dims size;
-        moved = no_part frames (left i0) (left i2) (moved_more (left i0) (left i1) (left i2) before.frames f before.moved next.moved);
+        moved = moves_on (moved_more (left i0) (left i1) (left i2) before.frames f before.moved next.moved) (moves_nothing (left i2));
         grown = cut_prefix s frames (held o0) (held o2) (omega (arith, count)) (subst (λ (b : List ℕ). GrowsByPrefix (held o0) b (held o2)) (sym is) (prefix_on before.grown next.grown));
         unwritten = λ none. absurd (omega (arith, count, none));
       }
@@ -217,7 +210,7 @@ module _ {S K : Type 0} (left : S → Option (List ℕ)) (input_faults : S → �
         some = omega (arith, before.count);
         most = omega (arith, before.count);
         whole = before.whole;
-        moved = then_nothing (raw before.frames) (left i0) (left i1) (left i2) before.moved none.moved;
+        moved = then_nothing before.moved none.moved;
         end = none.end;
         grown = end_whole s before.frames (held o0) (held o2) (held o3) (omega (arith, before.count)) grown end;
         numbers = is ∙ rw (sym before.count, end_size s before.frames bytes (omega (arith, before.count)) before.size) refl;
@@ -237,7 +230,7 @@ module _ {S K : Type 0} (left : S → Option (List ℕ)) (input_faults : S → �
         most = omega (arith, before.count);
         whole = before.whole;
         less = some_bytes s.dims size;
-        moved = no_part before.frames (left i0) (left i2) (then_nothing (raw before.frames) (left i0) (left i1) (left i2) before.moved none.moved);
+        moved = moves_on before.moved none.moved;
         grown = end_prefix s before.frames (held o0) (held o2) (held o3) (omega (arith, before.count)) grown end;
         unwritten = λ nothing. absurd (omega (arith, before.count, nothing));
       }
@@ -255,7 +248,7 @@ module _ {S K : Type 0} (left : S → Option (List ℕ)) (input_faults : S → �
       (rose_since puts h.0, end_cut_here s number bytes i0 i1 i2 o0 o1 o2 o3 size small before none h.1 h.2)
   end_stopped s number bytes i0 i1 i2 o0 o1 o2 o3 (ShortFrame extra) size small puts before none h = absurd h
   end_stopped s number bytes i0 i1 i2 o0 o1 o2 o3 NoFrames size small puts before none h =
-      let moved = then_nothing (raw before.frames) (left i0) (left i1) (left i2) before.moved none.moved in
+      let moved = then_nothing before.moved none.moved in
       record {
         moved = subst (λ (b : List ℕ). Moves (left i0) b (left i2)) (empty_list before.frames (omega (arith, before.count, h.0))) moved;
         end = none.end;

@@ -59,11 +59,11 @@ abbrev pub predictor_list : Samples → ℕ → ℕ → List ℤ
 predictor_list frame row column =
     (predictors frame row column).luma ∷ (predictors frame row column).cb ∷ (predictors frame row column).cr ∷ []
 
--- the state in which the blocks of a macroblock are read
-unfoldable pub state_inside : ℕ → ℕ → Samples → ℕ → ℕ → SliceState
-state_inside quantiser columns frame row column = record {
+-- a state inside a row, behind the macroblock of a column
+abbrev pub state_in_row : ℕ → ℕ → List ℤ → ℕ → ℕ → SliceState
+state_in_row quantiser columns dc row column = record {
   quantiser = quantiser;
-  dc = predictor_list frame row column;
+  dc = dc;
   pmv = no_predictors;
   forward = false;
   backward = false;
@@ -73,20 +73,14 @@ state_inside quantiser columns frame row column = record {
   next = row * columns;
 }
 
+-- the state in which the blocks of a macroblock are read
+unfoldable pub state_inside : ℕ → ℕ → Samples → ℕ → ℕ → SliceState
+state_inside quantiser columns frame row column = state_in_row quantiser columns (predictor_list frame row column) row column
+
 -- the state before a macroblock
 unfoldable pub state_before : ℕ → ℕ → Samples → ℕ → ℕ → SliceState
 state_before quantiser columns frame row zero = at_start (flat_context columns) row quantiser (row * columns)
-state_before quantiser columns frame row (suc column) = record {
-  quantiser = quantiser;
-  dc = predictor_list frame row (suc column);
-  pmv = no_predictors;
-  forward = false;
-  backward = false;
-  intra = true;
-  first = false;
-  address = pos (row * columns + column);
-  next = row * columns;
-}
+state_before quantiser columns frame row (suc column) = state_in_row quantiser columns (predictor_list frame row (suc column)) row column
 
 -- ---- slices
 
