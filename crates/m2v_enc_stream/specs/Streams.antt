@@ -2,12 +2,9 @@
 use Rattle.std.specs.Prelude.{ℕ, zero, suc, ◌+◌, ◌*◌, ◌/◌, ◌%◌, Bool, true, false, ◌&&◌, nat_eq, cond, if◌then◌else◌, List, [], ◌∷◌, ◌++◌, map, length, replicate, slice_index, Option, Some, None}
 use Rattle.std.specs.List.{range_with_len, flat_map}
 use Rattle.m2v_bits.specs.Bits.{packed, start_code, ◌⧺◌}
-use Rattle.m2v_plane.specs.declared.dims.Dims.{Dims}
-use Rattle.m2v_plane.specs.declared.planes.Plane.{Plane}
-use Rattle.m2v_plane.specs.declared.planes.Plane.TheVariants.{Y, Cb, Cr}
 use Rattle.m2v_plane.specs.declared.planes.Lines.{Lines}
 use Rattle.m2v_plane.specs.declared.planes.Lines.TheVariants.{Top, Bottom}
-use Rattle.m2v_plane.specs.Samples.{Samples, plane_by}
+use Rattle.m2v_plane.specs.Samples.{Samples}
 use Rattle.m2v_plane.specs.Raw.{pad, crop}
 use Rattle.m2v_set.specs.declared.settings.Settings.{Settings}
 use Rattle.m2v_set.specs.Numbers.{dims_of}
@@ -16,6 +13,7 @@ use Rattle.m2v_order.specs.declared.jobs.PictureJob.{PictureJob}
 use Rattle.m2v_order.specs.Times.{intervals_of}
 use Rattle.m2v_order.specs.Groups.{Queue, Group, is_due, group_of, after_group}
 use Rattle.m2v_rate.specs.Plans.{Entries, account_at, fresh, begun}
+pub use Rattle.m2v_model.specs.Painting.{frame_by}
 use Rattle.m2v_slice.specs.Slices.{CodedSlice}
 use Rattle.m2v_slice.specs.Headers.{header_units, bits_to_code}
 use Rattle.m2v_slice.specs.Books.{Book, CodedPicture, picture_activities, coded, picture_at, job_at, picture_sample, has_lines, ledger_behind, all_coded}
@@ -48,15 +46,6 @@ pictures_text b done l ends at (suc n) =
     t ++ picture_text b done l ends (at + length t) n
 
 -- ---- reconstructions
-
--- a frame by its samples
-abbrev pub frame_by : Dims → (Plane → ℕ → ℕ → ℕ) → Samples
-frame_by d at = record {
-  dims = d;
-  luma = plane_by (16 * d.mb_rows) (16 * d.mb_width) (at Y);
-  cb = plane_by (8 * d.mb_rows) (8 * d.mb_width) (at Cb);
-  cr = plane_by (8 * d.mb_rows) (8 * d.mb_width) (at Cr);
-}
 
 -- of the first n pictures, the one that has these lines of a frame
 unfoldable pub picture_with : Book → ℕ → Lines → ℕ → Option ℕ
