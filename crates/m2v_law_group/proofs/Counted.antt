@@ -8,7 +8,7 @@ use Rattle.m2v_model.specs.m2v_macroblock.m2v_head.declared.picture.PictureExten
 use Rattle.m2v_model.specs.declared.state.Open.{Open}
 use Rattle.m2v_model.specs.declared.state.FirstField.{FirstField}
 use Rattle.m2v_model.specs.declared.state.State.{State}
-use Rattle.m2v_model.specs.States.{is_b, is_frame, has_anchor, drops, references_for, opened, one_anchor_more, may_follow, is_second_field_due}
+use Rattle.m2v_model.specs.States.{is_b, is_frame, has_anchor, drops, references_for, begun_open, opened, one_anchor_more, may_follow, is_second_field_due}
 use Rattle.m2v_law_group.proofs.Alike.{IsLeftOut}
 
 -- a picture of a type is left out, behind so many anchors of the cut
@@ -62,19 +62,7 @@ BegunAs true p q = IsLeftOut p q
 BegunAs false p q = p ≡ q
 
 abbrev made : Bool → Bool → Bool → List Bool → PictureInfo → PictureExtension → Open
-made second headers dropped references info extension = record {
-  info = info;
-  extension = extension;
-  second_field = second;
-  dropped = dropped;
-  slices_unread = headers || dropped;
-  references = references;
-  has_slice = false;
-  row = 0;
-  covered = 0;
-  large_macroblocks = 0;
-  crowded_row = 0;
-}
+made second headers dropped references info extension = begun_open info extension second dropped (headers || dropped) references
 
 pub same_begun : (w c : State) (info : PictureInfo) (extension : PictureExtension) → w.waiting ≡ c.waiting → w.headers_only ≡ c.headers_only → drops w info.kind ≡ drops c info.kind
     → references_for w info.kind extension.structure ≡ references_for c info.kind extension.structure → opened w info extension ≡ opened c info extension
