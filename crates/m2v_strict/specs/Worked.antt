@@ -1,5 +1,5 @@
 -- Worked headers, and what the stricter rules remark of them, written out by hand in the law on them.
-use Rattle.std.specs.Prelude.{true, false, [], ◌∷◌, None}
+use Rattle.std.specs.Prelude.{true, false, [], ◌∷◌}
 use Rattle.m2v_model.specs.m2v_macroblock.m2v_head.declared.sequence.SequenceInfo.{SequenceInfo}
 use Rattle.m2v_model.specs.m2v_macroblock.m2v_head.declared.sequence.SequenceExtension.{SequenceExtension}
 use Rattle.m2v_model.specs.m2v_macroblock.m2v_head.declared.group.GroupInfo.{GroupInfo}
@@ -7,36 +7,16 @@ use Rattle.m2v_model.specs.m2v_macroblock.m2v_head.declared.picture.PictureInfo.
 use Rattle.m2v_model.specs.m2v_macroblock.m2v_head.declared.picture.PictureExtension.{PictureExtension}
 use Rattle.m2v_model.specs.declared.state.Sequence.{Sequence}
 use Rattle.m2v_model.specs.declared.notes.PictureNote.{PictureNote}
+use Rattle.m2v_model.specs.Plain.{plain_sequence, plain_sequence_extension, plain_picture, plain_picture_extension}
 use Rattle.m2v_check.specs.declared.coded.CodedPicture.{CodedPicture}
 
 -- television of 704 by 484 at 29.97 Hz, interlaced, of Main Profile at Main Level, at 6 Mbit/s: 4 lines of 484 stand in the 16th
 -- pair of macroblock rows, so that 512 lines are coded
 abbrev pub info : SequenceInfo
-info = record {
-  horizontal_size = 704;
-  vertical_size = 484;
-  aspect = 2;
-  frame_rate_code = 4;
-  bit_rate = 15000;
-  vbv_buffer_size = 112;
-  constrained = false;
-  load_intra = None;
-  load_non_intra = None;
-}
+info = record (plain_sequence 704 484 4) { aspect = 2; bit_rate = 15000 }
 
 abbrev pub extension : SequenceExtension
-extension = record {
-  profile_and_level = 72;
-  progressive_sequence = false;
-  chroma_format = 1;
-  horizontal_ext = 0;
-  vertical_ext = 0;
-  bit_rate_ext = 0;
-  vbv_ext = 0;
-  low_delay = false;
-  rate_n = 0;
-  rate_d = 0;
-}
+extension = plain_sequence_extension 72 false
 
 abbrev pub television : Sequence
 television = record { info = info; extension = extension }
@@ -58,31 +38,14 @@ tenth = record passed_over { minutes = 10 }
 
 -- an I picture at constant rate: a progressive frame with dct_type, whose chroma isn't so, and an f_code that isn't used
 abbrev pub picture_info : PictureInfo
-picture_info = record {
-  temporal_reference = 0;
-  kind = 1;
-  vbv_delay = 20000;
-  full_pel_forward = false;
-  forward_f_code = 0;
-  full_pel_backward = false;
-  backward_f_code = 0;
-}
+picture_info = record (plain_picture 0) { vbv_delay = 20000 }
 
 abbrev pub picture_extension : PictureExtension
-picture_extension = record {
+picture_extension = record plain_picture_extension {
   f_code = (15 ∷ 15 ∷ []) ∷ (15 ∷ 3 ∷ []) ∷ [];
-  dc_precision = 0;
-  structure = 3;
   top_field_first = true;
   frame_pred_frame_dct = false;
-  concealment = false;
-  q_scale_type = false;
-  intra_vlc_format = false;
-  alternate_scan = false;
-  repeat_first_field = false;
   chroma_420_type = false;
-  progressive_frame = true;
-  composite = None;
 }
 
 abbrev pub note : PictureNote
