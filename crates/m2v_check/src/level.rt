@@ -94,20 +94,9 @@ pub fn bounds_at(level: Level) -> Bounds
 }
 
 /// The time of a field in units of 1/720,000 s, by frame_rate_code (table 6-4); 0 for codes that are forbidden or reserved.
-#[tactic(auto, unfolding(m2v_set::specs::Numbers::field_time, m2v_set::specs::Numbers::field_units))]
 pub fn time_of_field(code: u8) -> u64
     ensures value { result ≡ field_time code }
     ensures most { result ≤ 15015 }
 {
-    match code {
-        1 => 15015,
-        2 => 15000,
-        3 => 14400,
-        4 => 12012,
-        5 => 12000,
-        6 => 7200,
-        7 => 6006,
-        8 => 6000,
-        _ => 0,
-    }
+    m2v_set::time_of_field(u32::from(code))
 }
