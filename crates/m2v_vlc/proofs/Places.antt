@@ -6,7 +6,7 @@ use Rattle.std.proofs.lemmas.Int.{ints}
 use Rattle.std.proofs.lemmas.Bool.{cases_Bool, eqb-true, eq-eqb, ltb-true, leb-true, lt-ltb, le-leb, lt-leb, and_parts, and_from, and_right, cond-true, cond-false, both_ways}
 use Rattle.m2v_vlc.specs.declared.values.Coefficient.{Coefficient}
 use Rattle.m2v_vlc.specs.declared.values.Coefficient.TheVariants.{End, Escape, Pair}
-use Rattle.m2v_vlc.specs.declared.coefficient.TheConstants.{RUN_START}
+use Rattle.m2v_vlc.specs.declared.code.TheConstants.{RUN_START}
 use Rattle.m2v_vlc.specs.Codes.{Row, row, code_of, is_single}
 use Rattle.m2v_vlc.specs.Values.{same_signed, minus}
 use Rattle.m2v_vlc.specs.Lookups.{code_in}

@@ -2,7 +2,7 @@
 use Rattle.std.specs.Prelude.{ℕ, ◌+◌, ◌*◌, Bool, cond, ◌&&◌, nat_lt, nat_le, ℤ, pos, int_lt, unsigned_abs, slice_index}
 use Rattle.m2v_vlc.specs.declared.values.Coefficient.{Coefficient}
 use Rattle.m2v_vlc.specs.declared.values.Coefficient.TheVariants.{End, Escape, Pair}
-use Rattle.m2v_vlc.specs.declared.coefficient.TheConstants.{RUN_START}
+use Rattle.m2v_vlc.specs.declared.code.TheConstants.{RUN_START}
 
 -- how many pairs stand before those of the run
 unfoldable pub start : ℕ → ℕ
