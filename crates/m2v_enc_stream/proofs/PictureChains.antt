@@ -42,7 +42,7 @@ use Rattle.m2v_enc_stream.specs.States.{waiting_behind, anchors_behind}
 use Rattle.m2v_enc_stream.proofs.Turns.{IsCounted, IsTurn, turn_at}
 use Rattle.m2v_enc_stream.proofs.States.{next_sequence, next_group, same_sequence, state_before, state_at, header_after}
 use Rattle.m2v_enc_stream.proofs.CalmHeaders.{sequence_calm, sequence_extension_calm, group_calm, picture_calm, coding_calm}
-use Rattle.m2v_enc_stream.proofs.Zeros.{padded, Holds, holds_packs, holds_append, holds_zeros}
+use Rattle.m2v_enc_stream.proofs.Zeros.{padded, Holds, holds_packs, holds_zeros}
 use Rattle.m2v_enc_stream.proofs.SliceUnits.{Spelled, slice_bytes, task_slice, rows_chain}
 use Rattle.m2v_enc_stream.proofs.TreePictures.{sequence_bytes, extension_bytes, group_bytes, picture_bytes, coding_bytes, sequence_reads, group_reads, picture_reads}
 
@@ -235,7 +235,7 @@ texts_are b n p lt =
 holds_map : (text : ℕ → List Bool) (bytes : ℕ → List ℕ) (from n : ℕ) → ((k : ℕ) → k < from + n → Holds (text k) (bytes k ∷ [])) → Holds (flat_map text (range_with_len from n)) (map bytes (range_with_len from n))
 holds_map text bytes from zero each = holds_packs [] [] packs_none
 holds_map text bytes from (suc n) each =
-    holds_append (text from) (flat_map text (range_with_len (from + 1) n)) (bytes from ∷ []) (map bytes (range_with_len (from + 1) n)) (each from (omega arith))
+    packs_append (text from) (flat_map text (range_with_len (from + 1) n)) (bytes from ∷ []) (map bytes (range_with_len (from + 1) n)) (each from (omega arith))
     (holds_map text bytes (from + 1) n (λ k lt. each k (omega (arith, lt))))
 
 slice_holds : (law : Spelled) (b : Book) → IsBook b → (p r zeros : ℕ) → p < length b.pictures → r < rows b → Holds (slice_unit_text b p r ++ replicate (8 * zeros) false) (padded (slice_bytes b p r) zeros ∷ [])
@@ -255,7 +255,7 @@ slices_hold law b h p zeros lt =
     let e : k + 1 ≡ rows b = omega (arith, some) in
     let front = flat_map (slice_unit_text b p) (range_with_len 0 k) in
     let end = replicate (8 * zeros) false in
-    let both = holds_append front (slice_unit_text b p k ++ end) (map (λ r. padded (slice_bytes b p r) 0) (range_with_len 0 k)) (padded (slice_bytes b p k) zeros ∷ [])
+    let both = packs_append front (slice_unit_text b p k ++ end) (map (λ r. padded (slice_bytes b p r) 0) (range_with_len 0 k)) (padded (slice_bytes b p k) zeros ∷ [])
     (holds_map (slice_unit_text b p) (λ r. padded (slice_bytes b p r) 0) 0 k (λ r small. slice_alone law b h p r lt (omega (arith, small, some))))
     (slice_holds law b h p k zeros lt (omega (arith, some))) in
     let whole : flat_map (slice_unit_text b p) (range_with_len 0 (rows b)) ++ end ≡ front ++ (slice_unit_text b p k ++ end) =
@@ -278,6 +278,6 @@ picture_text_holds law b h l ends n p at lt there =
     let same : flat_map (slice_unit_text b p) (range_with_len 0 (rows b)) ++ replicate (8 * zeros) false ≡ flat_map (λ (x : CodedSlice). x.text) (picture_at (coded b n) p).slices ++ replicate (zeros_of l ends p) false =
     ap (λ (t : List Bool). t ++ replicate (8 * zeros) false) (sym (texts_are b n p there))
     ∙ ap (λ (k : ℕ). flat_map (λ (x : CodedSlice). x.text) (picture_at (coded b n) p).slices ++ replicate k false) eight in
-    holds_append (header_units b.settings (job_at b p) delay) _ (header_bytes b.settings (job_at b p) delay) (slices_bytes b p zeros)
+    packs_append (header_units b.settings (job_at b p) delay) _ (header_bytes b.settings (job_at b p) delay) (slices_bytes b p zeros)
     (header_holds b.settings (job_at b p) delay known.size known.choice (picture_is_one b h p lt).kind)
     (subst (λ (t : List Bool). Holds t (slices_bytes b p zeros)) same rest)

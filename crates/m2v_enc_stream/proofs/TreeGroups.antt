@@ -21,12 +21,12 @@ use Rattle.m2v_model.specs.States.{at_first, is_complete, none_waits}
 use Rattle.m2v_model.specs.Streams.{Part}
 use Rattle.m2v_model.specs.Chains.{Chain, nothing}
 use Rattle.m2v_model.proofs.Chains.{chain_then}
-use Rattle.m2v_model.proofs.Units.{packs_none}
+use Rattle.m2v_model.proofs.Units.{packs_none, packs_append}
 use Rattle.m2v_enc_stream.specs.Trees.{sequence_by, pictures_parts, group_parts, groups_parts}
 use Rattle.m2v_enc_stream.specs.States.{state_with, open_at, waiting_behind, anchors_behind}
 use Rattle.m2v_enc_stream.proofs.Turns.{IsCounted, none_behind, anchors_end}
 use Rattle.m2v_enc_stream.proofs.States.{state_before, state_at, references_at, complete_at, first_sequence}
-use Rattle.m2v_enc_stream.proofs.Zeros.{Holds, holds_packs, holds_append}
+use Rattle.m2v_enc_stream.proofs.Zeros.{Holds, holds_packs}
 use Rattle.m2v_enc_stream.proofs.SliceUnits.{Spelled}
 use Rattle.m2v_enc_stream.proofs.PictureChains.{picture_units_of, IsReady, ready_at, picture_read, picture_text_holds}
 
@@ -81,7 +81,7 @@ unfolding pictures_text pictures_units
 pictures_hold law b h m l ends at zero le few = holds_packs [] [] packs_none
 pictures_hold law b h m l ends at (suc n) le few =
     let t = pictures_text b (coded b m) l ends at n in
-    holds_append t (picture_text b (coded b m) l ends (at + length t) n) (pictures_units b (coded b m) l ends at n) (picture_units_of b l ends (at + length t) n)
+    packs_append t (picture_text b (coded b m) l ends (at + length t) n) (pictures_units b (coded b m) l ends at n) (picture_units_of b l ends (at + length t) n)
     (pictures_hold law b h m l ends at n (omega (arith, le)) (omega (arith, few)))
     (picture_text_holds law b h l ends m n (at + length t) (omega (arith, le)) (omega (arith, few)))
 
@@ -235,5 +235,5 @@ groups_add law s (g ∷ h ∷ more) x all =
     record {
       bits = t ++ rest.bits;
       is = rest.is ∙ ap (λ (u : List Bool). u ++ rest.bits) (group_text_is s x g false) ∙ append_assoc x.text t rest.bits;
-      holds = holds_append t rest.bits (group_units_of s x g false) (groups_units s (group_coded s x g false) (h ∷ more)) one rest.holds;
+      holds = packs_append t rest.bits (group_units_of s x g false) (groups_units s (group_coded s x g false) (h ∷ more)) one rest.holds;
     }

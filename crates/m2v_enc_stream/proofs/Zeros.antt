@@ -1,19 +1,19 @@
 -- Units with zero bytes behind them, as they stand behind the last slice of a picture: texts are cut into them too.
-use Rattle.std.proofs.Common.{◌≡◌, ℕ, zero, suc, ◌+◌, ◌-◌, ◌*◌, ◌%◌, ◌<◌, ◌≤◌, Bool, true, false, inl, inr, List, [], ◌∷◌, ◌++◌, length, drop, replicate, refl, sym, ap, subst, ◌∙◌, arith, append_assoc}
+use Rattle.std.proofs.Common.{◌≡◌, ℕ, zero, suc, ◌+◌, ◌-◌, ◌*◌, ◌<◌, ◌≤◌, Bool, true, false, inl, inr, List, [], ◌∷◌, ◌++◌, length, drop, replicate, refl, sym, ap, subst, ◌∙◌, arith, append_assoc}
 use Rattle.std.specs.Prelude.{nat_eq, All}
 use Rattle.std.proofs.lemmas.Bool.{cases_lt}
 use Rattle.std.proofs.lemmas.List.{length-append, append-nil, replicate-append-replicate, length-replicate}
 use Rattle.std.proofs.lemmas.List.Concat.{flat_map-append}
-use Rattle.std.proofs.lemmas.List.Elements.{All-head, All-tail, All-nil, All-cons, All-append}
+use Rattle.std.proofs.lemmas.List.Elements.{All-head, All-tail, All-nil, All-cons}
 use Rattle.std.proofs.Math.Seq.{drop-append-add}
 use Rattle.std.proofs.Math.Bool.{and-false}
 use Rattle.m2v_bits.specs.Bits.{bits_of, number, bits, packed, unit, to_edge}
 use Rattle.m2v_bits.proofs.Units.{unit_edge, packed-append}
 use Rattle.m2v_model.specs.Faults.{InUnit}
 use Rattle.m2v_model.specs.Units.{begins_code, joined, Clear, AreUnits, Cuts, Units, inside}
-use Rattle.m2v_model.specs.Texts.{ended, unit_bytes, IsCalm, IsTidy, Packs}
+use Rattle.m2v_model.specs.Texts.{ended, unit_bytes, IsCalm, IsTidy, PacksEach, Packs}
 use Rattle.m2v_model.proofs.Calm.{calm_end}
-use Rattle.m2v_model.proofs.Units.{ended_bits, are_units, joined_append, packs_unit}
+use Rattle.m2v_model.proofs.Units.{ended_bits, are_units, packs_unit, packs_append}
 
 -- a unit, and zero bytes behind it
 abbrev pub padded : List ℕ → ℕ → List ℕ
@@ -26,11 +26,9 @@ pub record IsPadded (u : List ℕ) : Type 0 where
   pub is : u ≡ padded unit zeros
   pub tidy : IsTidy unit
 
--- the text ends at the edge of a byte, and its bytes are these units
-pub record Holds (text : List Bool) (us : Units) : Type 0 where
-  pub edge : length text % 8 ≡ 0
-  pub bytes : packed text ≡ joined us
-  pub padded : All IsPadded us
+-- a text of such units
+abbrev pub Holds : List Bool → Units → Type 0
+Holds = PacksEach IsPadded
 
 -- ---- zero bytes
 
@@ -92,14 +90,7 @@ all_padded [] h = All-nil IsPadded
 all_padded (u ∷ us) h = All-cons IsPadded u us (tidy_padded u (All-head IsTidy u us h)) (all_padded us (All-tail IsTidy u us h))
 
 pub holds_packs : (text : List Bool) (us : Units) → Packs text us → Holds text us
-holds_packs text us h = record { edge = h.edge; bytes = h.bytes; padded = all_padded us h.tidy }
-
-pub holds_append : (a b : List Bool) (us vs : Units) → Holds a us → Holds b vs → Holds (a ++ b) (us ++ vs)
-holds_append a b us vs p q = record {
-  edge = omega (arith, length-append a b, p.edge, q.edge);
-  bytes = packed-append a b p.edge ∙ rw (p.bytes, q.bytes) (sym (joined_append us vs));
-  padded = All-append IsPadded us vs p.padded q.padded;
-}
+holds_packs text us h = record { edge = h.edge; bytes = h.bytes; each = all_padded us h.each }
 
 -- a unit, and zero bytes behind it
 pub holds_zeros : (value zeros : ℕ) (t : List Bool) → value < 256 → IsCalm t
@@ -113,7 +104,7 @@ holds_zeros value zeros t below calm =
           ∙ ap (λ (x : List ℕ). x ++ packed (replicate (8 * zeros) false)) (p.bytes ∙ append-nil u)
           ∙ ap (λ (x : List ℕ). u ++ x) (packed_zeros zeros)
           ∙ sym (append-nil (padded u zeros));
-      padded = All-cons IsPadded (padded u zeros) [] (record { unit = u; zeros = zeros; is = refl; tidy = All-head IsTidy u [] p.tidy }) (All-nil IsPadded);
+      each = All-cons IsPadded (padded u zeros) [] (record { unit = u; zeros = zeros; is = refl; tidy = All-head IsTidy u [] p.each }) (All-nil IsPadded);
     }
 
 -- ---- no start code inside
@@ -220,9 +211,9 @@ padded_units (u ∷ us) e h last =
 -- a text of such units, and a last one without zero bytes, is cut into them
 pub padded_cuts : (text end : List Bool) (us : Units) (e : List ℕ) → Holds text us → Packs end (e ∷ []) → Cuts (packed (text ++ end)) [] (us ++ e ∷ [])
 padded_cuts text end us e h p =
-    let all = holds_append text end us (e ∷ []) h (holds_packs end (e ∷ []) p) in
+    let all = packs_append text end us (e ∷ []) h (holds_packs end (e ∷ []) p) in
     record {
       whole = all.bytes;
       front_clear = λ i le lt. absurd (omega (arith, lt));
-      are_units = padded_units us e h.padded (All-head IsTidy e [] p.tidy);
+      are_units = padded_units us e h.each (All-head IsTidy e [] p.each);
     }

@@ -38,13 +38,18 @@ OpenAlike None (Some q) = ⊥
 OpenAlike (Some p) None = ⊥
 OpenAlike (Some p) (Some q) = (p ≡ q) ⊎ IsLeftOut p q
 
--- states of the whole and of the cut, but for their anchors and what the last group header says
-pub record AreAlike (w c : State) : Type 0 where
+-- the first sequence headers of the whole and of the cut: what follows the one may follow the other
+pub record FirstsAlike (w c : Option Sequence) : Type 0 where
   pub first_whole : Sequence
   pub first_cut : Sequence
-  pub whole : w.first ≡ Some first_whole
-  pub cut : c.first ≡ Some first_cut
+  pub whole : w ≡ Some first_whole
+  pub cut : c ≡ Some first_cut
   pub firsts : (s : Sequence) → is_same_sequence (Some first_whole) s ≡ true → is_same_sequence (Some first_cut) s ≡ true
+
+-- states of the whole and of the cut, but for their anchors and what the last group header says
+pub record AreAlike (w c : State) : Type 0 where
+  pub first : FirstsAlike w.first c.first
+  pub open first use *
   pub known : is_some c.sequence ≡ true
   pub sequence : w.sequence ≡ c.sequence
   pub intra : w.intra ≡ c.intra
@@ -342,31 +347,24 @@ left_alike p q row covered large false e l =
 
 -- with other pictures
 with_pictures : (w c : State) (p q : Option Open) → AreAlike w c → OpenAlike p q → AreAlike (record w { picture = p }) (record c { picture = q })
-with_pictures w c p q a o = record { first_whole = a.first_whole; first_cut = a.first_cut; whole = a.whole; cut = a.cut; firsts = a.firsts; known = a.known; sequence = a.sequence; intra = a.intra; non_intra = a.non_intra; waiting = a.waiting; headers = a.headers; pictures = o }
+with_pictures w c p q a o = record { first = a.first; known = a.known; sequence = a.sequence; intra = a.intra; non_intra = a.non_intra; waiting = a.waiting; headers = a.headers; pictures = o }
+
+-- behind another sequence header
+first_again : {w c : Option Sequence} (s : Sequence) → FirstsAlike w c → FirstsAlike (Some (first_or w s)) (Some (first_or c s))
+first_again s f = record {
+  first_whole = f.first_whole;
+  first_cut = f.first_cut;
+  whole = ap (λ (o : Option Sequence). Some (first_or o s)) f.whole;
+  cut = ap (λ (o : Option Sequence). Some (first_or o s)) f.cut;
+  firsts = f.firsts;
+}
 
 same_alike : (w c : State) (p : Part) → AreAlike w c → BeginAlike w c p → AreAlike (after w p) (after c p)
 unfolding after
-same_alike w c (sequence s) a b = record {
-  first_whole = a.first_whole;
-  first_cut = a.first_cut;
-  whole = ap (λ (f : Option Sequence). Some (first_or f s)) a.whole;
-  cut = ap (λ (f : Option Sequence). Some (first_or f s)) a.cut;
-  firsts = a.firsts;
-  known = refl;
-  sequence = refl;
-  intra = refl;
-  non_intra = refl;
-  waiting = a.waiting;
-  headers = a.headers;
-  pictures = tt;
-}
-same_alike w c (group g) a b = record { first_whole = a.first_whole; first_cut = a.first_cut; whole = a.whole; cut = a.cut; firsts = a.firsts; known = a.known; sequence = a.sequence; intra = a.intra; non_intra = a.non_intra; waiting = a.waiting; headers = a.headers; pictures = tt }
+same_alike w c (sequence s) a b = record { first = first_again s a.first; known = refl; sequence = refl; intra = refl; non_intra = refl; waiting = a.waiting; headers = a.headers; pictures = tt }
+same_alike w c (group g) a b = record { first = a.first; known = a.known; sequence = a.sequence; intra = a.intra; non_intra = a.non_intra; waiting = a.waiting; headers = a.headers; pictures = tt }
 same_alike w c (picture info extension) a b = record {
-  first_whole = a.first_whole;
-  first_cut = a.first_cut;
-  whole = a.whole;
-  cut = a.cut;
-  firsts = a.firsts;
+  first = a.first;
   known = a.known;
   sequence = a.sequence;
   intra = a.intra;
@@ -376,11 +374,7 @@ same_alike w c (picture info extension) a b = record {
   pictures = b;
 }
 same_alike w c (matrices m) a b = record {
-  first_whole = a.first_whole;
-  first_cut = a.first_cut;
-  whole = a.whole;
-  cut = a.cut;
-  firsts = a.firsts;
+  first = a.first;
   known = a.known;
   sequence = a.sequence;
   intra = ap (loaded_or m.intra) a.intra;

@@ -87,22 +87,37 @@ store_at a sa s pre b g = store_after b (store_from (after a (sequence s)) (pict
 abbrev pub chosen_pictures : State → Store → List Part → State → Pictures
 chosen_pictures w sw ps z = pictures_in (events_from w sw ps) ++ (pictures_in (closed z.picture (store_from w sw ps)) ++ [])
 
--- what was read of the whole: a sequence header, units without a picture, a group header, and units up to where others
--- begin a piece
-pub record Whole (changed : Bool) (a : State) (sa : Store) (h : List ℕ) (pm : Units) (g : List ℕ) (later : Units) (s : Sequence) (pre : List Part) (b : State) (gi : GroupInfo) (ps : List Part) (z : State) : Type 0 where
+-- what was read of a sequence header and of units without a picture behind it
+pub record SequenceRun (a : State) (h : List ℕ) (pm : Units) (s : Sequence) (pre : List Part) (b : State) : Type 0 where
   pub mid : Units
   pub h_read : unit_read a (h ∷ pm) ≡ good ((true, sequence s), mid)
   pub pre_run : Run (after a (sequence s)) mid pre b []
+  pub none : has_picture mid ≡ false
+
+-- what was read of a group header and of units behind it
+pub record GroupRun (b : State) (g : List ℕ) (later : Units) (gi : GroupInfo) (ps : List Part) (z : State) : Type 0 where
   pub g_read : unit_read b (g ∷ later) ≡ good ((true, group gi), later)
   pub run : Run (after b (group gi)) later ps z []
+
+-- which units these are
+pub record AreHeads (h g : List ℕ) (later : Units) : Type 0 where
   pub h_is : is_sequence h ≡ true
-  pub none : has_picture mid ≡ false
   pub g_is : is_group g ≡ true
   pub long : 8 ≤ length g
+  pub lead : LeadUnits false later
+
+-- what was read of the whole: a sequence header, units without a picture, a group header, and units up to where others
+-- begin a piece
+pub record Whole (changed : Bool) (a : State) (sa : Store) (h : List ℕ) (pm : Units) (g : List ℕ) (later : Units) (s : Sequence) (pre : List Part) (b : State) (gi : GroupInfo) (ps : List Part) (z : State) : Type 0 where
+  pub sequence_run : SequenceRun a h pm s pre b
+  pub open sequence_run use *
+  pub group_run : GroupRun b g later gi ps z
+  pub open group_run use *
+  pub heads : AreHeads h g later
+  pub open heads use *
   pub headers : a.headers_only ≡ false
   pub anchors : changed ≡ false → a.anchors ≡ 0
   pub frames : changed ≡ false → picture_ended a.picture sa ≡ no_frames
-  pub lead : LeadUnits false later
   pub ten : TenHolds true ps
   pub complete : is_complete z.sequence z.picture ≡ true
   pub paired : none_waits z.waiting ≡ true

@@ -281,8 +281,7 @@ parted_by t rs from count a on c b behind goes =
     let back = no_ends_parts c.own c.ds (all.1).1 in
     record {
       first = b.first;
-      h_is = b.is;
-      g_is = on;
+      heads = record { h_is = b.is; g_is = on; long = a.long; lead = lead_front false c.own c.ds (subst (LeadUnits false) c.whole (lead_units a.later a.intra)) };
       pre_goes = front.0;
       pm_goes = front.1;
       body_goes = ((all.1).0, back.0);
@@ -292,8 +291,6 @@ parted_by t rs from count a on c b behind goes =
       other = c.other rs behind;
       no_picture = ap has_picture (sym b.last) ∙ a.silent;
       no_sequence = b.none;
-      long = a.long;
-      lead = lead_front false c.own c.ds (subst (LeadUnits false) c.whole (lead_units a.later a.intra));
       next = c.next;
       unchanged = λ off. (picture_append b.pre (b.h ∷ b.pm) (ap has_picture (sym b.whole) ∙ off)).0;
     }

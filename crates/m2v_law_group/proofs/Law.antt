@@ -22,11 +22,11 @@ use Rattle.m2v_law_group.specs.Chosen.{before_header, from_header, last_sequence
 use Rattle.m2v_law_group.proofs.Runs.{Run, stop, step, Ends, finish, going, split, KnownThere, none_ends}
 use Rattle.m2v_law_group.proofs.Parts.{PartOf, of_sequence, of_group, of_picture, of_other, part_of}
 use Rattle.m2v_law_group.proofs.Lists.{Behind, or_parts, headers_append}
-use Rattle.m2v_law_group.proofs.Leads.{LeadUnits, NoPictures, NoSequences, no_pictures, no_sequences, pictures_step, groups_of, groups_counted, is_first_sequence}
+use Rattle.m2v_law_group.proofs.Leads.{NoPictures, NoSequences, no_pictures, no_sequences, pictures_step, groups_of, groups_counted, is_first_sequence}
 use Rattle.m2v_law_group.proofs.Told.{events_then, headers_in, headers_then, headers_told, from_there, before_there, last_then, last_kept, TenEvents}
 use Rattle.m2v_law_group.proofs.Tens.{TenHolds, ten_parts, ten_front, quiet, headers_kept, run_known}
 use Rattle.m2v_law_group.proofs.Start.{IsSequence, sequence_start, header_by, complete_there}
-use Rattle.m2v_law_group.proofs.Core.{FirstRead, first_read, IsCut, Whole, cut_read, chosen_pictures, store_at}
+use Rattle.m2v_law_group.proofs.Core.{FirstRead, first_read, IsCut, SequenceRun, GroupRun, AreHeads, Whole, cut_read, chosen_pictures, store_at}
 use Rattle.m2v_law_group.proofs.Between.{OtherFirst, paired_end, Next, pictures_between}
 
 -- ---- units before the first sequence header
@@ -163,8 +163,8 @@ pub record CutOf (changed : Bool) (from count : ℕ) (units : Units) (es : Event
 -- how the units of a stream are parted, and what is known of the parts
 pub record Parted (changed : Bool) (count : ℕ) (pre : Units) (h : List ℕ) (pm : Units) (g : List ℕ) (body ds rs : Units) : Type 0 where
   pub first : is_first_sequence (pre ++ h ∷ pm) ≡ true
-  pub h_is : is_sequence h ≡ true
-  pub g_is : is_group g ≡ true
+  pub heads : AreHeads h g body
+  pub open heads use *
   pub pre_goes : NoEnds pre
   pub pm_goes : NoEnds (h ∷ pm)
   pub body_goes : NoEnds (g ∷ body)
@@ -174,8 +174,6 @@ pub record Parted (changed : Bool) (count : ℕ) (pre : Units) (h : List ℕ) (p
   pub other : OtherFirst (ds ++ rs)
   pub no_picture : has_picture (h ∷ pm) ≡ false
   pub no_sequence : has_sequence pm ≡ false
-  pub long : 8 ≤ length g
-  pub lead : LeadUnits false body
   pub next : Next (1 + group_headers body) count ds
   pub unchanged : changed ≡ false → has_picture pre ≡ false
 
@@ -236,13 +234,11 @@ record Two (a : State) (h : List ℕ) (pm vs : Units) (ps : List Part) (x : Stat
   s : Sequence
   pre : List Part
   others : List Part
-  mid : Units
   parts : ps ≡ (sequence s ∷ pre) ++ others
-  h_read : unit_read a (h ∷ pm) ≡ good ((true, sequence s), mid)
-  run : Run (after a (sequence s)) mid pre b []
+  sequence_run : SequenceRun a h pm s pre b
+  open sequence_run use *
   later : Ends b vs others x rest
   known : IsKnown b
-  no_picture : has_picture mid ≡ false
   no_sequence : has_sequence mid ≡ false
 
 two_by : (a b : State) (h : List ℕ) (pm vs : Units) (ps mine others : List Part) (x : State) (rest : Units) → is_sequence h ≡ true → has_picture (h ∷ pm) ≡ false → has_sequence pm ≡ false → ps ≡ mine ++ others → Ends b vs others x rest
@@ -255,13 +251,10 @@ two_by a b h pm vs ps mine others x rest is n q e later f k =
       s = k.s;
       pre = f.later;
       others = others;
-      mid = f.mid;
       parts = e ∙ ap (λ (l : List Part). l ++ others) (f.parts ∙ ap (λ (y : Part). y ∷ f.later) k.part);
-      h_read = subst (λ (y : Part). unit_read a (h ∷ pm) ≡ good ((true, y), f.mid)) k.part f.read;
-      run = run;
+      sequence_run = record { mid = f.mid; h_read = subst (λ (y : Part). unit_read a (h ∷ pm) ≡ good ((true, y), f.mid)) k.part f.read; pre_run = run; none = behind.no_picture };
       later = later;
       known = run_known run (sequence_of k.s a).0;
-      no_picture = behind.no_picture;
       no_sequence = behind.no_sequence;
     }
 
@@ -279,8 +272,8 @@ record Three (b : State) (g : List ℕ) (body vs : Units) (ps : List Part) (x : 
   own : List Part
   others : List Part
   parts : ps ≡ group gi ∷ (own ++ others)
-  g_read : unit_read b (g ∷ body) ≡ good ((true, group gi), body)
-  run : Run (after b (group gi)) body own z []
+  group_run : GroupRun b g body gi own z
+  open group_run use *
   later : Ends z vs others x rest
 
 three_by : (b z : State) (g : List ℕ) (body vs : Units) (ps mine others : List Part) (x : State) (rest : Units) → ps ≡ mine ++ others → Ends z vs others x rest → (f : FirstRead b g body mine z []) → GroupRead b g body f.mid f.p → Three b g body vs ps x rest
@@ -290,8 +283,10 @@ three_by b z g body vs ps mine others x rest e later f k = record {
   own = f.later;
   others = others;
   parts = e ∙ ap (λ (l : List Part). l ++ others) (f.parts ∙ ap (λ (y : Part). y ∷ f.later) k.part);
-  g_read = subst (λ (l : Units). unit_read b (g ∷ body) ≡ good ((true, group k.info), l)) k.rest (subst (λ (y : Part). unit_read b (g ∷ body) ≡ good ((true, y), f.mid)) k.part f.read);
-  run = subst (λ (l : Units). Run (after b (group k.info)) l f.later z []) k.rest (subst (λ (y : Part). Run (after b y) f.mid f.later z []) k.part f.run);
+  group_run = record {
+    g_read = subst (λ (l : Units). unit_read b (g ∷ body) ≡ good ((true, group k.info), l)) k.rest (subst (λ (y : Part). unit_read b (g ∷ body) ≡ good ((true, y), f.mid)) k.part f.read);
+    run = subst (λ (l : Units). Run (after b (group k.info)) l f.later z []) k.rest (subst (λ (y : Part). Run (after b y) f.mid f.later z []) k.part f.run);
+  };
   later = later;
 }
 
@@ -351,19 +346,12 @@ whole_of changed count pre h pm g body ds rs x rest prep a ps ps2 d run1 paired 
     let kz = run_known r.run (known_after t.b (group r.gi) t.known) in
     let q = λ (off : changed ≡ false). quiet run1 no_frames first_numbers.0 (none_before run1 (first_or_none pre (h ∷ pm) d.first) (d.unchanged off)) in
     record {
-      mid = t.mid;
-      h_read = t.h_read;
-      pre_run = t.run;
-      g_read = r.g_read;
-      run = r.run;
-      h_is = d.h_is;
-      none = t.no_picture;
-      g_is = d.g_is;
-      long = d.long;
+      sequence_run = t.sequence_run;
+      group_run = r.group_run;
+      heads = d.heads;
       headers = headers_kept run1 ∙ first_numbers.2;
       anchors = λ off. (q off).anchors ∙ first_numbers.1;
       frames = λ off. ap (λ (o : Option Open). picture_ended o (store_from at_first no_frames prep)) (q off).picture ∙ (q off).kept;
-      lead = d.lead;
       ten = ten_front true r.own r.others ten;
       complete = complete_there r.later d.begins kz;
       paired = paired_end r.later d.begins d.other kz paired;
@@ -387,13 +375,13 @@ cut_by changed count pre h pm g body ds rs x rest ps prep a ps1 d paired ten e r
     let sw = store_at a sa t.s t.pre t.b r.gi in
     let tail = r.own ++ r.others in
     let kind = sequence_of t.s a in
-    let nopictures = no_pictures t.run kind.0 t.no_picture in
-    let nosequences = no_sequences t.run kind.0 t.no_sequence in
-    let none = (quiet t.run (picture_ended a.picture sa) kind.1 nopictures).picture in
+    let nopictures = no_pictures t.pre_run kind.0 t.none in
+    let nosequences = no_sequences t.pre_run kind.0 t.no_sequence in
+    let none = (quiet t.pre_run (picture_ended a.picture sa) kind.1 nopictures).picture in
     let front = events_from at_first no_frames prep ++ events_from a sa (sequence t.s ∷ t.pre) in
     let behind = events_from wb sw tail in
     let parts : ps ≡ prep ++ ((sequence t.s ∷ t.pre) ++ group r.gi ∷ tail) = e ∙ ap (λ (l : List Part). prep ++ l) (t.parts ∙ ap (λ (l : List Part). (sequence t.s ∷ t.pre) ++ l) r.parts) in
-    let all : es ≡ front ++ group_header r.gi ∷ behind = ap (events_from at_first no_frames) parts ∙ told_around prep pre a t.b h pm t.mid t.s t.pre r.gi tail run1 t.h_read t.run none in
+    let all : es ≡ front ++ group_header r.gi ∷ behind = ap (events_from at_first no_frames) parts ∙ told_around prep pre a t.b h pm t.mid t.s t.pre r.gi tail run1 t.h_read t.pre_run none in
     let later : Ends t.b (g ∷ (body ++ (ds ++ rs))) (group r.gi ∷ tail) x rest = subst (λ (l : List Part). Ends t.b (g ∷ (body ++ (ds ++ rs))) l x rest) r.parts t.later in
     let sb = store_from (after a (sequence t.s)) (picture_ended a.picture sa) t.pre in
     let tens = ten_of front behind r.gi t.b sb es tail (g ∷ (body ++ (ds ++ rs))) x rest later none all (group_events t.b sb r.gi tail none) ten in
@@ -401,7 +389,7 @@ cut_by changed count pre h pm g body ds rs x rest ps prep a ps1 d paired ten e r
     let kw = known_after t.b (group r.gi) t.known in
     let between = pictures_between r.gi wb r.z x sw body rest r.own r.others count ds rs r.run kw r.later d.ds_goes d.behind d.next in
     let told : pictures_in (before_header count (group_header r.gi ∷ behind)) ≡ chosen_pictures wb sw r.own r.z = ap (λ (l : Events). pictures_in (before_header count (group_header r.gi ∷ l))) (events_then r.run sw r.others) ∙ between in
-    let number = headers_before prep pre a t.b sa h pm t.mid t.s t.pre run1 t.h_read t.run d.first d.h_is in
+    let number = headers_before prep pre a t.b sa h pm t.mid t.s t.pre run1 t.h_read t.pre_run d.first d.h_is in
     let answers = asked front behind es r.gi (group_headers (pre ++ h ∷ pm)) count t.s (chosen_pictures wb sw r.own r.z) all number (last_before (events_from at_first no_frames prep) a sa t.s t.pre nosequences) told in
     record {
       s = t.s;

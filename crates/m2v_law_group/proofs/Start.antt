@@ -142,7 +142,7 @@ pub start_both : (changed : Bool) (a : State) (s : Sequence) (store : Store) →
     → AreBoth false changed false 0 (after a (sequence s)) (after at_first (sequence s)) store no_frames
 unfolding after
 start_both changed a s store waits headers same anchors frames = record {
-  alike = record { first_whole = first_or a.first s; first_cut = s; whole = refl; cut = refl; firsts = λ x e. first_same a.first s x same e; known = refl; sequence = refl; intra = refl; non_intra = refl; waiting = waits; headers = headers; pictures = tt };
+  alike = record { first = record { first_whole = first_or a.first s; first_cut = s; whole = refl; cut = refl; firsts = λ x e. first_same a.first s x same e }; known = refl; sequence = refl; intra = refl; non_intra = refl; waiting = waits; headers = headers; pictures = tt };
   reach = start_reach changed a.anchors a.closed_gop anchors;
   held = start_held changed store frames;
 }

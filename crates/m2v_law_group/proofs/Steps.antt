@@ -193,7 +193,7 @@ unfolding after
 group_both changed fresh k w c sw sc g h b kept is_open =
     let a = b.alike in
     record {
-      alike = record { first_whole = a.first_whole; first_cut = a.first_cut; whole = a.whole; cut = a.cut; firsts = a.firsts; known = a.known; sequence = a.sequence; intra = a.intra; non_intra = a.non_intra; waiting = a.waiting; headers = a.headers; pictures = tt };
+      alike = record { first = a.first; known = a.known; sequence = a.sequence; intra = a.intra; non_intra = a.non_intra; waiting = a.waiting; headers = a.headers; pictures = tt };
       reach = opened_group changed fresh w c g h b.reach kept is_open;
       held = still_held changed c.anchors c.waiting _ _ (rested changed k c.anchors c.waiting w.picture c.picture sw sc b.held);
     }

@@ -105,11 +105,7 @@ pub turned : (f g : Sequence) (k : ℕ) (w c : State) (sw sc : Store) → ((s : 
 turned f g k w c sw sc back b =
     let a = b.alike in
     record {
-      first_whole = g;
-      first_cut = f;
-      whole = b.alone;
-      cut = b.whole;
-      firsts = back;
+      first = record { first_whole = g; first_cut = f; whole = b.alone; cut = b.whole; firsts = back };
       known = ap is_some a.sequence ∙ a.known;
       sequence = sym a.sequence;
       intra = sym a.intra;

@@ -59,16 +59,26 @@ run_by {a} {c = c} {us = us} {vs = vs} (step {mid = mid} {p = p} e r) (step {mid
 
 -- ---- between two pieces
 
--- of a stream's units those before, and the state and the first field that they leave
-pub record At (body rs : Units) (r : ReadOn (body ++ rs)) (w : ℕ) (bu : Units) : Type 0 where
-  pub fu : Units
+-- units that were read from a state on, before others of a stream
+pub record PieceRead (body rs : Units) (r : ReadOn (body ++ rs)) (st : State) (z bu : Units) : Type 0 where
   pub parts : List Part
   pub others : List Part
   pub state : State
-  pub whole : body ≡ fu ++ bu
-  pub run : Run at_first fu parts state []
+  pub run : Run st z parts state []
   pub later : Ends state (bu ++ rs) others r.state r.rest
+
+-- the first units of a stream, as they were read
+pub record FrontRead (body rs : Units) (r : ReadOn (body ++ rs)) (fu bu : Units) : Type 0 where
+  pub piece : PieceRead body rs r at_first fu bu
+  pub open piece use *
   pub known : IsKnown state
+
+-- of a stream's units those before, and the state and the first field that they leave
+pub record At (body rs : Units) (r : ReadOn (body ++ rs)) (w : ℕ) (bu : Units) : Type 0 where
+  pub fu : Units
+  pub whole : body ≡ fu ++ bu
+  pub front : FrontRead body rs r fu bu
+  pub open front use *
   pub waits : Waits w state.waiting
 
 -- no second field is due behind any front that has these units behind it
@@ -89,13 +99,6 @@ rest_entry : (body rs : Units) (r : ReadOn (body ++ rs)) (w : ℕ) (bu : Units) 
 rest_entry body rs r w bu a begins other = rest_by body rs r w bu a (paired_end a.later begins other a.known r.paired)
 
 -- a piece that is read from there on
-record PieceRead (body rs : Units) (r : ReadOn (body ++ rs)) (st : State) (z bu : Units) : Type 0 where
-  parts : List Part
-  others : List Part
-  state : State
-  run : Run st z parts state []
-  later : Ends state (bu ++ rs) others r.state r.rest
-
 piece_read : (body rs : Units) (r : ReadOn (body ++ rs)) (w : ℕ) (z bu : Units) → (a : At body rs r w (z ++ bu)) → BeginsPiece (bu ++ rs) → NoEnds z → PieceRead body rs r a.state z bu
 piece_read body rs r w z bu a begins goes =
     let i = split a.later z (bu ++ rs) (append_assoc z bu rs) begins goes (known_there a.state z a.known) in
@@ -110,26 +113,15 @@ at_on body rs r w z bu a are quiet has goes first begins =
     let field : field_of (joined z) ≡ first_field (coded_pictures z) = ap (λ (l : Units). first_field (coded_pictures l)) (cut_units z are) in
     record {
       fu = a.fu ++ z;
-      parts = a.parts ++ p.parts;
-      others = p.others;
-      state = p.state;
       whole = a.whole ∙ sym (append_assoc a.fu z bu);
-      run = run_then (run_before z first a.run) p.run;
-      later = p.later;
-      known = run_known p.run a.known;
+      front = record {
+        piece = record { parts = a.parts ++ p.parts; others = p.others; state = p.state; run = run_then (run_before z first a.run) p.run; later = p.later };
+        known = run_known p.run a.known;
+      };
       waits = subst (λ (n : ℕ). Waits (next_waits w n) (p.state).waiting) (sym field) waits;
     }
 
 -- ---- where a stream begins
-
--- the first units of a stream, as they were read
-record FrontRead (body rs : Units) (r : ReadOn (body ++ rs)) (fu bu : Units) : Type 0 where
-  parts : List Part
-  others : List Part
-  state : State
-  run : Run at_first fu parts state []
-  later : Ends state (bu ++ rs) others r.state r.rest
-  known : IsKnown state
 
 front_read : (body rs : Units) (r : ReadOn (body ++ rs)) (h : List ℕ) (t bu : Units) → body ≡ (h ∷ t) ++ bu → is_sequence h ≡ true → NoEnds (h ∷ t) → BeginsPiece (bu ++ rs) → FrontRead body rs r (h ∷ t) bu
 front_read body rs r h t bu e is goes begins =
@@ -137,7 +129,10 @@ front_read body rs r h t bu e is goes begins =
     let f = first_read at_first i.between h t i.mine i.run in
     let q = sequence_start at_first h t f.mid f.p is f.read in
     let run : Run (after at_first (sequence q.s)) f.mid f.later i.between [] = subst (λ (y : Part). Run (after at_first y) f.mid f.later i.between []) q.part f.run in
-    record { parts = i.mine; others = i.others; state = i.between; run = i.run; later = i.later; known = run_known run (known_behind at_first q.s) }
+    record {
+      piece = record { parts = i.mine; others = i.others; state = i.between; run = i.run; later = i.later };
+      known = run_known run (known_behind at_first q.s);
+    }
 
 -- where it ends
 pub rest_last : (body rs : Units) (r : ReadOn (body ++ rs)) (h : List ℕ) (t : Units) → body ≡ h ∷ t → is_sequence h ≡ true → NoEnds (h ∷ t) → BeginsPiece rs → OtherFirst rs → AtRest body []
@@ -152,13 +147,8 @@ at_first_piece body rs r h t bu e is goes begins quiet has =
     let f = front_read body rs r h t bu e is goes begins in
     record {
       fu = h ∷ t;
-      parts = f.parts;
-      others = f.others;
-      state = f.state;
       whole = e;
-      run = f.run;
-      later = f.later;
-      known = f.known;
+      front = f;
       waits = piece_waits f.run refl 0 (inr is) quiet has refl;
     }
 

@@ -9,7 +9,7 @@ use Rattle.std.proofs.Math.Nat.{mod-eq_of_lt}
 use Rattle.std.proofs.Math.Bool.{and-false}
 use Rattle.m2v_bits.specs.Bits.{bits_of, number, bits, packed, start_code, to_edge, unit}
 use Rattle.m2v_bits.proofs.Bits.{number-bits_of, bits_of-number}
-use Rattle.m2v_model.specs.Texts.{Calm, ended, unit_bytes, IsCalm, IsTidy, Packs}
+use Rattle.m2v_model.specs.Texts.{Calm, ended, unit_bytes, IsCalm, IsTidy, PacksEach, Packs}
 use Rattle.m2v_bits.proofs.Units.{start_length, unit_edge, packed-append}
 use Rattle.m2v_model.proofs.Edges.{packed_none}
 use Rattle.m2v_model.specs.Units.{begins_code, joined, Clear, AreUnits, Cuts, Units}
@@ -148,20 +148,20 @@ joined_append [] vs = refl
 joined_append (u ∷ us) vs = ap (λ (x : List ℕ). u ++ x) (joined_append us vs) ∙ sym (append_assoc u (joined us) (joined vs))
 
 pub packs_none : Packs [] []
-packs_none = record { edge = refl; bytes = packed_none; tidy = All-nil IsTidy }
+packs_none = record { edge = refl; bytes = packed_none; each = All-nil IsTidy }
 
 pub packs_unit : (value : ℕ) (t : List Bool) → value < 256 → IsCalm t → Packs (unit value t) (unit_bytes value t ∷ [])
 packs_unit value t below h = record {
   edge = unit_edge value t;
   bytes = unit_is value t below ∙ sym (append-nil (unit_bytes value t));
-  tidy = All-cons IsTidy (unit_bytes value t) [] (record { value = value; text = t; is = refl; calm = h }) (All-nil IsTidy);
+  each = All-cons IsTidy (unit_bytes value t) [] (record { value = value; text = t; is = refl; calm = h }) (All-nil IsTidy);
 }
 
-pub packs_append : (a b : List Bool) (us vs : Units) → Packs a us → Packs b vs → Packs (a ++ b) (us ++ vs)
-packs_append a b us vs p q = record {
+pub packs_append : {P : List ℕ → Type 0} (a b : List Bool) (us vs : Units) → PacksEach P a us → PacksEach P b vs → PacksEach P (a ++ b) (us ++ vs)
+packs_append {P} a b us vs p q = record {
   edge = omega (arith, length-append a b, p.edge, q.edge);
   bytes = packed-append a b p.edge ∙ rw (p.bytes, q.bytes) (sym (joined_append us vs));
-  tidy = All-append IsTidy us vs p.tidy q.tidy;
+  each = All-append P us vs p.each q.each;
 }
 
 -- texts one after another, each a unit
@@ -173,4 +173,4 @@ packs_map text bytes from (suc n) each =
 
 -- a text that packs units is cut into them
 pub cuts_of : (text : List Bool) (us : Units) → Packs text us → Cuts (packed text) [] us
-cuts_of text us p = record { whole = p.bytes; front_clear = λ i le lt. absurd (omega arith); are_units = are_units us p.tidy }
+cuts_of text us p = record { whole = p.bytes; front_clear = λ i le lt. absurd (omega arith); are_units = are_units us p.each }

@@ -1,6 +1,6 @@
 -- The rules that the verifier looks at beside the buffer (levels and profiles: clause 8), over what a stream tells: its
 -- headers and pictures in order. Each rule answers what breaks it, with the two numbers that it compares.
-use Rattle.std.specs.Prelude.{◌≡◌, ℕ, suc, ◌+◌, ◌*◌, ◌%◌, Bool, true, false, ◌&&◌, ◌||◌, not, nat_eq, nat_le, nat_lt, if◌then◌else◌, List, [], ◌∷◌, ◌++◌, slice_index, slice_index_or, Option, Some, None}
+use Rattle.std.specs.Prelude.{◌≡◌, ℕ, suc, ◌+◌, ◌*◌, ◌%◌, Bool, true, false, ◌&&◌, ◌||◌, not, nat_eq, if◌then◌else◌, List, [], ◌∷◌, ◌++◌, slice_index, slice_index_or, Option, Some, None}
 use Rattle.std.specs.List.{flat_map}
 use Rattle.m2v_order.specs.m2v_set.declared.settings.Level.{Level}
 use Rattle.m2v_order.specs.m2v_set.declared.settings.Level.TheVariants.{Main, High1440, High}
@@ -10,6 +10,7 @@ use Rattle.m2v_order.specs.Display.{Order}
 use Rattle.m2v_model.specs.declared.state.Sequence.{Sequence}
 use Rattle.m2v_model.specs.States.{width_of, height_of, is_frame}
 use Rattle.m2v_model.specs.Headers.{uses_forward, uses_backward}
+use Rattle.m2v_model.specs.Bounds.{told_unless, told_above, told_outside}
 use Rattle.m2v_model.specs.Streams.{Sofar}
 use Rattle.m2v_model.specs.Pictures.{Picture, Events, sequence_header, group_header, coded_picture}
 use Rattle.m2v_model.specs.Decoding.{Stream, events, low_delay_of}
@@ -31,16 +32,14 @@ breach rule picture have need = record { rule = rule; picture = picture; have = 
 
 -- a rule that holds, or the breach of it
 abbrev pub judge : Bool → Breach → Breaches
-judge holds b = if holds then [] else b ∷ []
+judge holds b = told_unless holds b
 
 abbrev pub at_most : ℕ → ℕ → ℕ → ℕ → Breaches
-at_most rule picture have need = judge (nat_le have need) (breach rule picture have need)
+at_most rule picture have need = told_above (breach rule picture) have need
 
 -- from one bound to another: the nearer bound is needed
 abbrev pub within : ℕ → ℕ → ℕ → ℕ → ℕ → Breaches
-within rule picture have low high =
-    if nat_lt have low then breach rule picture have low ∷ []
-    else at_most rule picture have high
+within rule picture have low high = told_outside (breach rule picture) have low high
 
 -- ---- levels (tables 8-2, 8-3 and 8-8 to 8-14)
 

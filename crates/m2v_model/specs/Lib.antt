@@ -15,6 +15,7 @@ pub mod Pieces
 pub mod Decoding
 pub mod ByPieces
 pub mod HeadersOnly
+pub mod Bounds
 pub mod Lawful
 pub mod Buffering
 pub mod PieceNotes

@@ -30,8 +30,11 @@ pub record IsTidy (u : List ℕ) : Type 0 where
   pub is : u ≡ unit_bytes value text
   pub calm : IsCalm text
 
--- the text ends at the edge of a byte, and its bytes are these units
-pub record Packs (text : List Bool) (us : Units) : Type 0 where
+-- the text ends at the edge of a byte, and its bytes are these units, of each of which something holds
+pub record PacksEach (P : List ℕ → Type 0) (text : List Bool) (us : Units) : Type 0 where
   pub edge : length text % 8 ≡ 0
   pub bytes : packed text ≡ joined us
-  pub tidy : All IsTidy us
+  pub each : All P us
+
+abbrev pub Packs : List Bool → Units → Type 0
+Packs = PacksEach IsTidy

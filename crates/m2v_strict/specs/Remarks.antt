@@ -1,5 +1,6 @@
 -- What a rule remarks of a header: the words in which the rules are written.
-use Rattle.std.specs.Prelude.{ℕ, Bool, ◌&&◌, ◌||◌, nat_eq, nat_le, nat_lt, if◌then◌else◌, List, [], ◌∷◌, ◌++◌, Option, Some, None}
+use Rattle.std.specs.Prelude.{ℕ, Bool, ◌&&◌, ◌||◌, nat_eq, nat_le, if◌then◌else◌, List, [], ◌∷◌, ◌++◌, Option, Some, None}
+use Rattle.m2v_model.specs.Bounds.{told_unless, told_above, told_outside}
 use Rattle.m2v_strict.specs.declared.element.Element.{Element}
 use Rattle.m2v_strict.specs.declared.remark.Remark.{Remark}
 
@@ -18,7 +19,7 @@ is_warning rule = lies 50 59 rule || (lies 66 71 rule || (lies 83 85 rule || nat
 
 -- a rule that holds, or what it remarks
 abbrev pub judge : Bool → Remark → Remarks
-judge holds r = if holds then [] else r ∷ []
+judge holds r = told_unless holds r
 
 -- a rule that is looked at in some headers alone
 abbrev pub looked_at : Bool → Remarks → Remarks
@@ -29,13 +30,11 @@ abbrev pub equal : ℕ → Element → ℕ → ℕ → Remarks
 equal rule element have need = judge (nat_eq have need) (remark rule element have need)
 
 abbrev pub at_most : ℕ → Element → ℕ → ℕ → Remarks
-at_most rule element have need = judge (nat_le have need) (remark rule element have need)
+at_most rule element have need = told_above (remark rule element) have need
 
 -- from one bound to another: the nearer bound is needed
 abbrev pub within : ℕ → Element → ℕ → ℕ → ℕ → Remarks
-within rule element have low high =
-    if nat_lt have low then remark rule element have low ∷ []
-    else at_most rule element have high
+within rule element have low high = told_outside (remark rule element) have low high
 
 -- a flag counts as 0 or 1
 abbrev pub number_of : Bool → ℕ
