@@ -21,6 +21,7 @@ use Rattle.m2v_pred.specs.Inside.{is_inside}
 use Rattle.m2v_macroblock.specs.Macroblocks.{kind_for}
 use Rattle.m2v_macroblock.specs.Modes.{address_of, skipped_before, first_skipped, mode_of}
 use Rattle.m2v_model.specs.Modes.{is_decoded, all_inside, references_decoded}
+use Rattle.m2v_dec_picture.specs.declared.basis.PictureBasis.{PictureBasis}
 use Rattle.m2v_dec_picture.specs.declared.gap.Gap.{Gap}
 use Rattle.m2v_dec_picture.specs.declared.located.Located.{Located}
 use Rattle.m2v_dec_picture.specs.declared.slice_kinds.SliceKinds.{SliceKinds}
@@ -46,6 +47,10 @@ HoldsForward s size holds = HoldsDecoded s size holds (slice_index_or s.referenc
 
 abbrev pub HoldsBackward : SliceSetup → Dims → (Plane → Lines → ℕ → Type 0) → Type 0
 HoldsBackward s size holds = HoldsDecoded s size holds (slice_index_or s.references 2 false) (slice_index_or s.references 3 false)
+
+-- both views of what a picture is decoded by do
+abbrev pub HoldReferences : {V : Type 0} → (V → Dims) → (V → Plane → Lines → ℕ → Type 0) → PictureBasis V → Type 0
+HoldReferences size holds b = HoldsForward b.setup.now (size b.forward.now) (holds b.forward.now) × HoldsBackward b.setup.now (size b.backward.now) (holds b.backward.now)
 
 -- the address of a macroblock of the row
 abbrev pub LiesInRow : PictureContext → ℕ → ℤ → Type 0
@@ -109,6 +114,10 @@ pub record CanPredict (s : SliceSetup) (mode : Mode) (at : MbPlace) : Type 0 whe
 -- the place of a macroblock of the picture
 abbrev pub place_in : SliceSetup → ℕ → ℕ → MbPlace
 place_in s row column = record { row = row; column = column; structure = s.context.extension.structure }
+
+-- all macroblocks of a row can be put
+abbrev pub TakesRow : (MbPlace → Type 0) → SliceSetup → ℕ → Type 0
+TakesRow takes s row = (column : ℕ) → column < s.context.columns → takes (place_in s row column)
 
 -- the macroblocks of a row that are skipped before one that was read: their number and the column of the first
 pub record IsGap (c : PictureContext) (row : ℕ) (st : SliceState) (m : MacroSyntax) (gap : Gap) : Type 0 where

@@ -22,6 +22,10 @@ pub record Frames : Type 0 where
   pub first_field : Option Samples
   pub reading : Option Reading
 
+-- the same of each
+abbrev pub frames_by : Option Samples → Option Samples → Option Samples → Option Samples → Option Reading → Frames
+frames_by older newer current first reading = record { older = older; newer = newer; current = current; first_field = first; reading = reading }
+
 -- what a picture that is open is predicted from, by the last two anchors and the first field of its frame
 abbrev pub references_at : Option Reading → Option Samples → Option Samples → Option Samples → References
 references_at None older newer first = no_references

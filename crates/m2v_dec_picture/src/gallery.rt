@@ -61,17 +61,11 @@ pub struct Gallery {
 }
 
 impl Model for Gallery {
-    ghost use Rattle.m2v_dec_picture.specs.Frames.{Frames};
+    ghost use Rattle.m2v_dec_picture.specs.Frames.{Frames, frames_by};
 
     ghost Value = { Frames };
 
-    ghost view = { λ g. record {
-      older = g.older;
-      newer = g.newer;
-      current = g.current;
-      first_field = g.first_field;
-      reading = g.reading;
-    } };
+    ghost view = { λ g. frames_by g.older g.newer g.current g.first_field g.reading };
 }
 
 /// A frame of a size: a spare one, or a new one. Its samples are any.

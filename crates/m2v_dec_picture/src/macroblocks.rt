@@ -8,7 +8,7 @@ ghost use Rattle.m2v_macro.specs.Conditions.{IsMacro};
 ghost use Rattle.m2v_macroblock.specs.Modes.{mode_of};
 ghost use Rattle.m2v_model.specs.Faults as faults;
 ghost use Rattle.m2v_model.specs.Slices.{macroblock_at};
-ghost use Rattle.m2v_dec_picture.specs.Conditions.{IsPicture, IsSetup, IsState, AreSliceKinds, AreDc, LiesInRow, rows_in, place_in, HoldsForward, HoldsBackward, CanPaint, IsColumn, IsGap, last_dc, GoesOn, AreFew};
+ghost use Rattle.m2v_dec_picture.specs.Conditions.{IsPicture, IsSetup, IsState, AreSliceKinds, AreDc, LiesInRow, rows_in, HoldReferences, TakesRow, CanPaint, IsColumn, IsGap, last_dc, GoesOn, AreFew};
 ghost use Rattle.m2v_dec_picture.specs.Reads.{TellsElements, TellsMacroblock, TellsRound, TellsRow, seen_by};
 
 use crate::basis::PictureBasis;
@@ -145,12 +145,8 @@ fn next_macroblock<V: RefView, T: Target>(
     requires row { row < rows_in basis.now.setup.now }
     requires state { IsState basis.now.setup.now.context row state.old }
     requires kinds { AreSliceKinds basis.now.setup.now.context kinds.old }
-    requires forward { HoldsForward basis.now.setup.now (V.size basis.now.forward.now)
-        (V.Holds basis.now.forward.now) }
-    requires backward { HoldsBackward basis.now.setup.now (V.size basis.now.backward.now)
-        (V.Holds basis.now.backward.now) }
-    requires takes { (column : ℕ) → column < basis.now.setup.now.context.columns
-        → T.Takes out.old (place_in basis.now.setup.now row column) }
+    requires references { HoldReferences V.size V.Holds basis.now }
+    requires takes { TakesRow (T.Takes out.old) basis.now.setup.now row }
     ensures exact { TellsRound T.placed basis.now.setup.now
         (seen_by (V.at basis.now.forward.now) (V.at basis.now.backward.now))
         state.old input.old.rest (T.samples out.old)
@@ -198,12 +194,8 @@ pub fn macroblocks<V: RefView, T: Target>(
     requires row { row < rows_in basis.now.setup.now }
     requires state { IsState basis.now.setup.now.context row first }
     requires begins { first.first ≡ true }
-    requires forward { HoldsForward basis.now.setup.now (V.size basis.now.forward.now)
-        (V.Holds basis.now.forward.now) }
-    requires backward { HoldsBackward basis.now.setup.now (V.size basis.now.backward.now)
-        (V.Holds basis.now.backward.now) }
-    requires takes { (column : ℕ) → column < basis.now.setup.now.context.columns
-        → T.Takes out.old (place_in basis.now.setup.now row column) }
+    requires references { HoldReferences V.size V.Holds basis.now }
+    requires takes { TakesRow (T.Takes out.old) basis.now.setup.now row }
     ensures exact { TellsRow T.placed basis.now.setup.now
         (seen_by (V.at basis.now.forward.now) (V.at basis.now.backward.now))
         first input.old.rest (T.samples out.old)

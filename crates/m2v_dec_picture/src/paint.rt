@@ -6,7 +6,7 @@ ghost use Rattle.m2v_macroblock.specs.Macroblocks.{macroblock_of};
 ghost use Rattle.m2v_macroblock.specs.Modes.{first_skipped, mode_of};
 ghost use Rattle.m2v_macroblock.specs.Predictions.{prediction_of};
 ghost use Rattle.m2v_model.specs.Samples.{skipped_painted, own_painted};
-ghost use Rattle.m2v_dec_picture.specs.Conditions.{IsSetup, IsState, AreSliceKinds, rows_in, place_in, HoldsForward, HoldsBackward, CanPaint, IsColumn, IsGap};
+ghost use Rattle.m2v_dec_picture.specs.Conditions.{IsSetup, IsState, AreSliceKinds, rows_in, place_in, HoldReferences, TakesRow, CanPaint, CanPredict, IsColumn, IsGap};
 ghost use Rattle.m2v_dec_picture.specs.Reads.{seen_by};
 
 use crate::basis::PictureBasis;
@@ -18,7 +18,7 @@ use crate::target::Target;
 use m2v_macro::SliceState;
 use m2v_macroblock::skipped_mode;
 use m2v_plane::RefView;
-use m2v_pred::Block16;
+use m2v_pred::{Block16, MbPlace};
 use m2v_recon::rebuild_block;
 
 /// Puts the macroblocks that are skipped before one: each is its prediction. `before` is the state before them, `second`
@@ -37,12 +37,8 @@ pub fn paint_gap<V: RefView, T: Target>(
     requires state { IsState basis.now.setup.now.context row before.now }
     requires can { CanPaint basis.now.setup.now before.now x.now.syntax }
     requires gap { IsGap basis.now.setup.now.context row before.now x.now.syntax x.now.gap }
-    requires forward { HoldsForward basis.now.setup.now (V.size basis.now.forward.now)
-        (V.Holds basis.now.forward.now) }
-    requires backward { HoldsBackward basis.now.setup.now (V.size basis.now.backward.now)
-        (V.Holds basis.now.backward.now) }
-    requires takes { (column : ℕ) → column < basis.now.setup.now.context.columns
-        → T.Takes out.old (place_in basis.now.setup.now row column) }
+    requires references { HoldReferences V.size V.Holds basis.now }
+    requires takes { TakesRow (T.Takes out.old) basis.now.setup.now row }
     ensures value { T.samples out.new
         ≡ skipped_painted T.placed basis.now.setup.now
         (seen_by (V.at basis.now.forward.now) (V.at basis.now.backward.now))
@@ -64,34 +60,26 @@ pub fn paint_gap<V: RefView, T: Target>(
     }
 }
 
-/// The prediction of a macroblock by its mode. An intra one has none, and the block stays as it is: all of its blocks are
-/// coded, and no sample of it depends on what the block holds.
+/// The prediction of a macroblock by its mode, at its place. An intra one has none, and the block stays as it is: all of its
+/// blocks are coded, and no sample of it depends on what the block holds.
 fn predict_own<V: RefView>(
     basis: &PictureBasis<V>,
-    row: u32,
-    before: &SliceState,
     x: &Located,
+    at: MbPlace,
     second: &mut Block16,
     block: &mut Block16,
 )
-    requires setup { IsSetup basis.now.setup.now }
-    requires row { row < rows_in basis.now.setup.now }
-    requires can { CanPaint basis.now.setup.now before.now x.now.syntax }
     requires mode { x.now.mode ≡ mode_of basis.now.setup.now.context x.now.syntax }
-    requires column { IsColumn basis.now.setup.now.context row before.now x.now.syntax
-        x.now.column }
-    requires forward { HoldsForward basis.now.setup.now (V.size basis.now.forward.now)
-        (V.Holds basis.now.forward.now) }
-    requires backward { HoldsBackward basis.now.setup.now (V.size basis.now.backward.now)
-        (V.Holds basis.now.backward.now) }
+    requires can { x.now.syntax.kind.intra ≡ false
+        → CanPredict basis.now.setup.now x.now.mode at }
+    requires references { HoldReferences V.size V.Holds basis.now }
     ensures value { x.now.syntax.kind.intra ≡ false → block.new.at
         ≡ prediction_of (V.at basis.now.forward.now) (V.at basis.now.backward.now)
-        basis.now.setup.now.context (place_in basis.now.setup.now row x.now.column) x.now.syntax }
+        basis.now.setup.now.context at x.now.syntax }
 {
     if x.syntax.kind.intra {
         return;
     }
-    let at = place(basis.setup, row, x.column);
     predict(basis, &x.mode, at, second, block);
 }
 
@@ -116,10 +104,7 @@ pub fn paint_own<V: RefView, T: Target>(
     requires column { IsColumn basis.now.setup.now.context row before.now scratch.old.found.syntax
         scratch.old.found.column }
     requires levels { All (λ l. All IsLevel l.at) scratch.old.levels }
-    requires forward { HoldsForward basis.now.setup.now (V.size basis.now.forward.now)
-        (V.Holds basis.now.forward.now) }
-    requires backward { HoldsBackward basis.now.setup.now (V.size basis.now.backward.now)
-        (V.Holds basis.now.backward.now) }
+    requires references { HoldReferences V.size V.Holds basis.now }
     requires takes { T.Takes out.old (place_in basis.now.setup.now row scratch.old.found.column) }
     ensures value { T.samples out.new
         ≡ own_painted T.placed basis.now.setup.now
@@ -134,10 +119,11 @@ pub fn paint_own<V: RefView, T: Target>(
     }
     let x = &scratch.found;
     let block = &mut scratch.block;
-    predict_own(basis, row, before, x, &mut scratch.second, block);
+    let at = place(basis.setup, row, x.column);
+    predict_own(basis, x, at, &mut scratch.second, block);
     let context = &basis.setup.context;
     let m = &x.syntax;
     let own = kinds.of(context, m.kind.intra);
     rebuild_block(block, &scratch.levels, m.pattern, own, m.dct_field);
-    out.put(place(basis.setup, row, x.column), block);
+    out.put(at, block);
 }

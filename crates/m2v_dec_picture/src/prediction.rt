@@ -1,6 +1,6 @@
 ghost use Rattle.std.specs.Prelude.{◌≡◌};
 ghost use Rattle.m2v_pred.specs.Predicted.{block_by, predicted};
-ghost use Rattle.m2v_dec_picture.specs.Conditions.{HoldsForward, HoldsBackward, CanPredict, place_in};
+ghost use Rattle.m2v_dec_picture.specs.Conditions.{HoldReferences, CanPredict, place_in};
 
 use crate::basis::PictureBasis;
 use m2v_model::SliceSetup;
@@ -28,10 +28,7 @@ pub fn predict<V: RefView>(
     block: &mut Block16,
 )
     requires can { CanPredict basis.now.setup.now mode.now at }
-    requires forward { HoldsForward basis.now.setup.now (V.size basis.now.forward.now)
-        (V.Holds basis.now.forward.now) }
-    requires backward { HoldsBackward basis.now.setup.now (V.size basis.now.backward.now)
-        (V.Holds basis.now.backward.now) }
+    requires references { HoldReferences V.size V.Holds basis.now }
     ensures value { block.new.at
         ≡ block_by (predicted (V.at basis.now.forward.now) (V.at basis.now.backward.now)
         mode.now at) }

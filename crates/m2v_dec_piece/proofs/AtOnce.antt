@@ -1,30 +1,16 @@
 -- Bytes in which no two zeros stand together, taken at once.
 use Rattle.std.proofs.Common.{◌≡◌, ℕ, zero, suc, ◌+◌, ◌≤◌, ◌<◌, ◌^◌, Bool, true, false, List, [], ◌∷◌, ◌++◌, length, take, drop, Option, Some, None, refl, sym, ap, subst, ◌∙◌, append_assoc, arith}
-use Rattle.std.specs.Prelude.{nat_eq, nat_le, not, ◌&&◌, if◌then◌else◌}
-use Rattle.std.proofs.lemmas.Bool.{lt-leb, ne_eqb}
+use Rattle.std.specs.Prelude.{nat_eq}
+use Rattle.std.proofs.lemmas.Bool.{ne_eqb}
 use Rattle.std.proofs.lemmas.List.{length-drop, length-take-le, take-append-drop}
 use Rattle.m2v_model.specs.declared.phase.Phase.{Phase}
 use Rattle.m2v_model.specs.declared.phase.Phase.TheVariants.{Before, Headers, Picture}
-use Rattle.m2v_model.specs.Pieces.{limit, Limit, too_large, most_input, most_bytes}
+use Rattle.m2v_model.specs.Pieces.{Limit, most_input, most_bytes}
 use Rattle.m2v_dec_piece.specs.Cutting.{Held, Fits, Took, TookAll, IsRun, behind, limit_in, limit_of, pieces_behind, start_behind, follows_behind}
 use Rattle.m2v_dec_piece.specs.Stepping.{Reaches, before_more}
-use Rattle.m2v_dec_piece.proofs.LimitLaws.{behind_none, behind_more, limit_of_more, limit_of_stays}
+use Rattle.m2v_dec_piece.proofs.LimitLaws.{few_fit, behind_none, behind_more, limit_of_more, limit_of_stays}
 use Rattle.m2v_dec_piece.proofs.RunLaws.{run_tail, run_last, run_pair}
 use Rattle.m2v_dec_piece.proofs.Steps.{took_other, took_longer}
-
--- few bytes pass no limit
-few_fit : (place k : ℕ) (bs : List ℕ) → place + (k + length bs) ≤ most_input → k + length bs ≤ most_bytes → limit place k bs ≡ None
-unfolding limit
-few_fit place k [] long large = refl
-few_fit place k (b ∷ bs) long large =
-    let one : nat_le most_input (place + k) ≡ false = lt-leb _ _ (omega (arith, long)) in
-    let other : nat_le most_bytes k ≡ false = lt-leb _ _ (omega (arith, large)) in
-    let rest = few_fit place (k + 1) bs (omega (arith, long)) (omega (arith, large)) in
-    rw (one, other) (by_case (not (nat_eq b 0)) rest)
-  where
-    by_case : (x : Bool) {o : Option Limit} → o ≡ None → (if x && false then Some too_large else o) ≡ None
-    by_case true e = e
-    by_case false e = e
 
 -- where bytes pass no limit those that stand first pass none
 front_fits : (h : Held) (xs ys : List ℕ) → limit_of h (xs ++ ys) ≡ None → limit_of h xs ≡ None

@@ -1,7 +1,7 @@
 -- Which byte passes a limit, as bytes become sure one after another.
 use Rattle.std.proofs.Common.{◌≡◌, ℕ, zero, suc, ◌+◌, ◌≤◌, Bool, true, false, List, [], ◌∷◌, ◌++◌, length, take, set, Option, Some, None, refl, sym, ap, subst, ◌∙◌, append_assoc, arith, inl, inr}
 use Rattle.std.specs.Prelude.{nat_eq, nat_le, nat_lt, not, ◌&&◌, if◌then◌else◌}
-use Rattle.std.proofs.lemmas.Bool.{cases_Bool, ltb-true, lt-ltb, le-ltb}
+use Rattle.std.proofs.lemmas.Bool.{cases_Bool, ltb-true, lt-leb, lt-ltb, le-ltb}
 use Rattle.std.proofs.lemmas.List.{append-nil, length-append}
 use Rattle.m2v_model.specs.declared.phase.Phase.{Phase}
 use Rattle.m2v_model.specs.declared.phase.Phase.TheVariants.{Before, Headers, Picture}
@@ -46,6 +46,20 @@ limit_more place k xs ys none = limit_append place k xs ys ∙ ap (λ (o : Optio
 -- what passes a limit does so whatever follows
 pub limit_stays : (place k : ℕ) (xs ys : List ℕ) (l : Limit) → limit place k xs ≡ Some l → limit place k (xs ++ ys) ≡ Some l
 limit_stays place k xs ys l some = limit_append place k xs ys ∙ ap (λ (o : Option Limit). or_else o (limit place (k + length xs) ys)) some
+
+-- few bytes pass no limit
+pub few_fit : (place k : ℕ) (bs : List ℕ) → place + (k + length bs) ≤ most_input → k + length bs ≤ most_bytes → limit place k bs ≡ None
+unfolding limit
+few_fit place k [] long large = refl
+few_fit place k (b ∷ bs) long large =
+    let one : nat_le most_input (place + k) ≡ false = lt-leb _ _ (omega (arith, long)) in
+    let other : nat_le most_bytes k ≡ false = lt-leb _ _ (omega (arith, large)) in
+    let rest = few_fit place (k + 1) bs (omega (arith, long)) (omega (arith, large)) in
+    rw (one, other) (by_case (not (nat_eq b 0)) rest)
+  where
+    by_case : (x : Bool) {o : Option Limit} → o ≡ None → (if x && false then Some too_large else o) ≡ None
+    by_case true e = e
+    by_case false e = e
 
 -- ---- of what is held
 

@@ -1,5 +1,5 @@
 -- What a cutter holds of a text, and what it hands out.
-use Rattle.std.specs.Prelude.{◌≡◌, ◌⊎◌, ℕ, suc, ◌+◌, ◌<◌, ◌≤◌, Bool, true, false, List, [], ◌∷◌, ◌++◌, length, take, Option, Some, None, nat_lt, nat_eq, if◌then◌else◌}
+use Rattle.std.specs.Prelude.{◌≡◌, ◌⊎◌, ℕ, suc, ◌+◌, ◌<◌, ◌≤◌, Bool, true, false, List, [], ◌∷◌, ◌++◌, length, take, replicate, Option, Some, None, nat_lt, nat_eq, if◌then◌else◌}
 use Rattle.m2v_model.specs.declared.phase.Phase.{Phase}
 use Rattle.m2v_model.specs.declared.phase.Phase.TheVariants.{Before, Headers, Picture}
 use Rattle.m2v_model.specs.Units.{cut}
@@ -17,6 +17,10 @@ pub record Held : Type 0 where
   pub place : ℕ
   pub sure : List ℕ
   pub ahead : ℕ
+
+-- the same, where the zero bytes that stand last are only counted
+abbrev pub held_by : Phase → ℕ → List ℕ → ℕ → ℕ → Held
+held_by phase place bytes zeros ahead = record { phase = phase; place = place; sure = bytes ++ replicate zeros 0; ahead = ahead }
 
 -- so many bytes of a start code's prefix
 abbrev pub prefix : ℕ → List ℕ

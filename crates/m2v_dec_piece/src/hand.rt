@@ -43,17 +43,12 @@ impl Model for Hand {
     ghost use Rattle.std.specs.Prelude.{◌+◌, ◌≤◌, ◌^◌, ◌++◌, ◌≡◌, [], length, replicate};
     ghost use Rattle.m2v_model.specs.declared.phase.Phase.TheVariants.{Before, Picture};
     ghost use Rattle.m2v_model.specs.Pieces.{zeros_last};
-    ghost use Rattle.m2v_dec_piece.specs.Cutting.{Held};
+    ghost use Rattle.m2v_dec_piece.specs.Cutting.{Held, held_by};
     ghost use Rattle.m2v_dec_piece.specs.Slices.{IsSliced};
 
     ghost Value = { Held };
 
-    ghost view = { λ h. record {
-      phase = h.phase;
-      place = h.place;
-      sure = h.bytes.items ++ replicate h.zeros 0;
-      ahead = h.ahead;
-    } };
+    ghost view = { λ h. held_by h.phase h.place h.bytes.items h.zeros h.ahead };
 
     ghost invariant = { λ h. (h.ahead ≤ 3) × (h.place + (length h.bytes.items + h.zeros) ≤ 2 ^ 36)
         × (zeros_last h.bytes.items ≡ 0) × (h.phase ≡ Before → length h.bytes.items + h.zeros ≡ 0)

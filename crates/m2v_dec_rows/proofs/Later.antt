@@ -49,16 +49,22 @@ pub record Skimmed : Type 0 where
 abbrev unmoved : State → Open → Skimmed
 unmoved z o = record { intra = z.intra; non_intra = z.non_intra; has_slice = o.has_slice; row = o.row }
 
+-- Where reading on stops, as the headers that were loaded and the picture that is open have come on, and the slices, each
+-- list of which grows behind those before it.
+pub record Stands (final : State) (loaded : List ℕ → List ℕ → State) (s : Sequence) (o : Open) (slices : Slices → Slices) : Type 0 where
+  pub at : Skimmed
+  pub open at use *
+  pub final_is : final ≡ skim_at (loaded intra non_intra) s (reached o has_slice row)
+  pub are : (now : Slices) → slices now ≡ now ++ slices []
+  pub ordered : AreOrdered o.row (picture_rows s o) (slices [])
+
 -- What reading on gives, from an open picture on: the state where it stops, the slices, and what is told of the same
 -- units as a whole.
 pub record Rest (z : State) (s : Sequence) (o : Open) (store : Store) (end : ℕ) (us : Units) (parts : List Part) (fault : Option (FaultKind × ℕ)) (st : State) (r : FrontRead st us parts fault) : Type 0 where
-  pub at : Skimmed
-  pub open at use *
-  pub final_is : stopped_from st parts ≡ skim_at (loaded z intra non_intra) s (reached o has_slice row)
+  pub stands : Stands (stopped_from st parts) (loaded z) s o (λ now. slices_by end now r)
+  pub open stands use *
   -- no matrices are loaded behind a slice
   pub kept : o.has_slice ≡ true → (intra ≡ z.intra) × (non_intra ≡ z.non_intra)
-  pub are : (now : Slices) → slices_by end now r ≡ now ++ slices_by end [] r
-  pub ordered : AreOrdered o.row (picture_rows s o) (slices_by end [] r)
   pub told : Tells end (slice_setup (loaded z intra non_intra) s o) (loaded z intra non_intra) s o store fault
       (slices_read (slice_setup (loaded z intra non_intra) s o) (Ok ([], o.covered)) (slices_by end [] r))
       (placed end (units_read (at_open z s o store) us))
@@ -77,11 +83,8 @@ none_behind (u ∷ us) mid n e = subst NoneBegins (sym e) n.1
 fault_rest : (z : State) (s : Sequence) (o : Open) (store : Store) (end : ℕ) (us : Units) (f : FaultKind × ℕ) (e : unit_read (skim_at z s o) us ≡ Err f) → NoneBegins us → Rest z s o store end us [] (Some f) (skim_at z s o) (faulty e)
 unfolding stopped_from slices_by slices_read
 fault_rest z s o store end us f e n = record {
-  at = unmoved z o;
-  final_is = refl;
+  stands = record { at = unmoved z o; final_is = refl; are = λ now. sym (append-nil now); ordered = tt };
   kept = λ has. (refl, refl);
-  are = λ now. sym (append-nil now);
-  ordered = tt;
   told = ap (placed end) (read_err (at_open z s o store) us f (alike_at z s o us (Err f) n e));
 }
 
@@ -89,11 +92,8 @@ over_rest : (z : State) (s : Sequence) (o : Open) (store : Store) (end : ℕ) (u
     → Rest z s o store end us (over ∷ []) None (skim_at z s o) (final_unit e)
 unfolding stopped_from slices_by slices_read
 over_rest z s o store end us rest e unread n = record {
-  at = unmoved z o;
-  final_is = refl;
+  stands = record { at = unmoved z o; final_is = refl; are = λ now. sym (append-nil now); ordered = tt };
   kept = λ has. (refl, refl);
-  are = λ now. sym (append-nil now);
-  ordered = tt;
   told = ends end z s o store us rest unread (alike_at z s o us (Ok ((false, over), rest)) n e).1;
 }
 
@@ -112,11 +112,8 @@ unfolding after stopped_from slices_by with_part
 matrices_rest z s o store end us mid m ps fault e later n h =
     let a = alike_at z s o us (Ok ((true, matrices m), mid)) n e in
     record {
-      at = h.at;
-      final_is = h.final_is;
+      stands = h.stands;
       kept = λ has. absurd (both_ways _ a.2 has);
-      are = h.are;
-      ordered = h.ordered;
       told = subst (Tells end _ _ s o store fault _) (ap (placed end) (sym (matrices_read z s o store us mid (tail_of us) m a.1 a.3))) h.told;
     }
 
@@ -133,11 +130,8 @@ unfolding after stopped_from slices_by with_part
 skipped_rest z s o store end us mid u ps fault e later n h =
     let a = alike_at z s o us (Ok ((true, skipped_unit u), mid)) n e in
     record {
-      at = h.at;
-      final_is = h.final_is;
+      stands = h.stands;
       kept = h.kept;
-      are = h.are;
-      ordered = h.ordered;
       told = subst (Tells end _ _ s o store fault _) (ap (placed end) (sym (skipped_read z s o store us mid (tail_of us) u a.1 a.2))) h.told;
     }
 
@@ -259,11 +253,13 @@ slice_rest z s o store end us mid row u ps fault e later unread n h =
     let vs = slices_by end [] later in
     let all : v ∷ vs ≡ slices_by end (v ∷ []) later = sym (first.are (v ∷ [])) in
     record {
-      at = unmoved z (reached o first.has_slice first.row);
-      final_is = first.final_is;
+      stands = record {
+        at = unmoved z (reached o first.has_slice first.row);
+        final_is = first.final_is;
+        are = λ now. first.are (now ++ v ∷ []) ∙ append_assoc now (v ∷ []) vs ∙ ap (λ (l : Slices). now ++ l) all;
+        ordered = subst (AreOrdered o.row (picture_rows s o)) all (a.3, a.2, first.ordered);
+      };
       kept = λ has. (refl, refl);
-      are = λ now. first.are (now ++ v ∷ []) ∙ append_assoc now (v ∷ []) vs ∙ ap (λ (l : Slices). now ++ l) all;
-      ordered = subst (AreOrdered o.row (picture_rows s o)) all (a.3, a.2, first.ordered);
       told = subst (λ (l : Slices). Tells end (slice_setup z s o) z s o store fault (slices_read (slice_setup z s o) (Ok ([], o.covered)) l) (placed end (units_read (at_open z s o store) us))) all
           (slice_tells z s o store end us mid (tail_of us) row u fault vs own a.1 refl whole (λ x large crowded. (settled (h x.covered large crowded (frames_behind (slice_setup z s o) (begun_at o row x) store)) refl).told));
     }

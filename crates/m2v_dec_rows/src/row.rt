@@ -1,7 +1,7 @@
 //! One macroblock row of a picture.
 ghost use Rattle.std.specs.Prelude.{◌≡◌, ◌+◌, ◌*◌, ◌^◌, ◌<◌, ◌≤◌, IfOk};
 ghost use Rattle.m2v_dec_piece.specs.Sound.{IsSoundPiece};
-ghost use Rattle.m2v_dec_picture.specs.Conditions.{HoldsForward, HoldsBackward};
+ghost use Rattle.m2v_dec_picture.specs.Conditions.{HoldsForward, HoldsBackward, HoldReferences};
 ghost use Rattle.m2v_dec_picture.specs.Reads.{seen_by};
 ghost use Rattle.m2v_dec_rows.specs.Rows.{missing as missing_of, below};
 ghost use Rattle.m2v_dec_rows.specs.Opened.{IsOpened, setup_of, slices_of, ending as ending_of};
@@ -38,10 +38,7 @@ fn read_own<V: RefView>(
     requires opened { IsOpened piece.now opened.now }
     requires setup { basis.now.setup.now ≡ setup_of opened.now }
     requires row { row < opened.now.rows }
-    requires forward { HoldsForward basis.now.setup.now (V.size basis.now.forward.now)
-        (V.Holds basis.now.forward.now) }
-    requires backward { HoldsBackward basis.now.setup.now (V.size basis.now.backward.now)
-        (V.Holds basis.now.backward.now) }
+    requires references { HoldReferences V.size V.Holds basis.now }
     requires wide { IsWide basis.now.setup.now out.old }
     ensures exact { TellsOwn basis.now.setup.now
         (seen_by (V.at basis.now.forward.now) (V.at basis.now.backward.now)) row
@@ -71,10 +68,7 @@ fn missing<V: RefView>(
     requires opened { IsOpened piece.now opened.now }
     requires setup { basis.now.setup.now ≡ setup_of opened.now }
     requires covered { covered ≤ 2 ^ 16 }
-    requires forward { HoldsForward basis.now.setup.now (V.size basis.now.forward.now)
-        (V.Holds basis.now.forward.now) }
-    requires backward { HoldsBackward basis.now.setup.now (V.size basis.now.backward.now)
-        (V.Holds basis.now.backward.now) }
+    requires references { HoldReferences V.size V.Holds basis.now }
     requires wide { IsWide basis.now.setup.now out.old }
     ensures { as_placed result ≡ missing_of basis.now.setup.now covered
         (below row (slices_of piece.now opened.now)) (ending_of piece.now opened.now) }

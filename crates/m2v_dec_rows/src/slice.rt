@@ -2,7 +2,7 @@
 ghost use Rattle.std.specs.Prelude.{ℕ, ◌≡◌, ◌+◌, ◌-◌, ◌*◌, ◌^◌, ◌<◌, ◌≤◌, IfOk, length, take, drop, vec_len};
 ghost use Rattle.m2v_model.specs.Units.{body};
 ghost use Rattle.m2v_dec_piece.specs.Sound.{IsSoundPiece};
-ghost use Rattle.m2v_dec_picture.specs.Conditions.{IsSetup, rows_in, HoldsForward, HoldsBackward};
+ghost use Rattle.m2v_dec_picture.specs.Conditions.{IsSetup, rows_in, HoldReferences};
 ghost use Rattle.m2v_dec_picture.specs.Reads.{seen_by};
 ghost use Rattle.m2v_dec_rows.specs.Opened.{StandsIn, unread};
 ghost use Rattle.m2v_dec_rows.specs.Reads.{IsWide, TellsUnread};
@@ -64,10 +64,7 @@ pub fn paint<V: RefView>(
     requires row { u.now.row < rows_in basis.now.setup.now }
     requires setup { IsSetup basis.now.setup.now }
     requires covered { covered ≤ 2 ^ 16 }
-    requires forward { HoldsForward basis.now.setup.now (V.size basis.now.forward.now)
-        (V.Holds basis.now.forward.now) }
-    requires backward { HoldsBackward basis.now.setup.now (V.size basis.now.backward.now)
-        (V.Holds basis.now.backward.now) }
+    requires references { HoldReferences V.size V.Holds basis.now }
     requires wide { IsWide basis.now.setup.now out.old }
     ensures exact { TellsUnread basis.now.setup.now
         (seen_by (V.at basis.now.forward.now) (V.at basis.now.backward.now)) covered

@@ -17,5 +17,6 @@ pub mod AnswerLaws
 pub mod PassLaws
 pub mod Passed
 pub mod Following
+pub use Rattle.m2v_dec_piece.proofs as m2v_dec_piece
 pub use Rattle.m2v_dec_rows.proofs.m2v_dec_picture
 pub use Rattle.m2v_dec_rows.proofs as m2v_dec_rows

@@ -1,16 +1,17 @@
 -- Texts of which no piece passes a limit: of few bytes each piece, and of at most 2^36 bytes the text.
 use Rattle.std.proofs.Common.{◌≡◌, ℕ, ◌+◌, ◌*◌, ◌≤◌, Bool, true, false, List, [], ◌∷◌, ◌++◌, length, map, sum, take, Option, Some, None, refl, ap, arith}
-use Rattle.std.specs.Prelude.{All, nat_eq, nat_le, not, ◌&&◌, if◌then◌else◌, slice_index}
-use Rattle.std.proofs.lemmas.Bool.{lt-leb, cond_both}
+use Rattle.std.specs.Prelude.{All, nat_eq, if◌then◌else◌, slice_index}
+use Rattle.std.proofs.lemmas.Bool.{cond_both}
 use Rattle.std.proofs.lemmas.List.{length-append, length-take}
 use Rattle.std.proofs.lemmas.List.Elements.{All-head, All-tail}
 use Rattle.std.proofs.lemmas.List.Sums.{sum_by-cons}
 use Rattle.m2v_check.specs.m2v_model.declared.phase.Phase.{Phase}
 use Rattle.m2v_check.specs.m2v_model.declared.phase.Phase.TheVariants.{Before, Headers, Picture}
 use Rattle.m2v_check.specs.m2v_model.Units.{Units, cut, joined}
-use Rattle.m2v_check.specs.m2v_model.Pieces.{phase_after, begins_piece, is_end, piece_of, grouped, pieces, before_sequence, limit, Limit, too_large, most_bytes, most_input}
+use Rattle.m2v_check.specs.m2v_model.Pieces.{phase_after, begins_piece, is_end, piece_of, grouped, pieces, before_sequence, most_input}
 use Rattle.m2v_check.specs.m2v_model.Buffering.{bits_of_piece}
 use Rattle.m2v_check.proofs.m2v_model.CutLaws.{cut_cuts}
+use Rattle.m2v_check.proofs.m2v_decode.m2v_dec_piece.LimitLaws.{few_fit}
 use Rattle.m2v_check.specs.m2v_decode.Answers.{AllFit, start_of}
 use Rattle.m2v_check.specs.m2v_decode.Complete.{IsUnderLimits}
 
@@ -76,20 +77,6 @@ within text =
     omega (arith, ap length (cut_cuts text).whole, length-append front (joined us), length-append front (before_sequence us), behind_most us)
 
 -- ---- limits
-
--- few bytes pass no limit
-few_fit : (place k : ℕ) (bs : List ℕ) → place + (k + length bs) ≤ most_input → k + length bs ≤ most_bytes → limit place k bs ≡ None
-unfolding limit
-few_fit place k [] long large = refl
-few_fit place k (b ∷ bs) long large =
-    let one : nat_le most_input (place + k) ≡ false = lt-leb _ _ (omega (arith, long)) in
-    let other : nat_le most_bytes k ≡ false = lt-leb _ _ (omega (arith, large)) in
-    let rest = few_fit place (k + 1) bs (omega (arith, long)) (omega (arith, large)) in
-    rw (one, other) (by_case (not (nat_eq b 0)) rest)
-  where
-    by_case : (x : Bool) {o : Option Limit} → o ≡ None → (if x && false then Some too_large else o) ≡ None
-    by_case true e = e
-    by_case false e = e
 
 -- the bits of a piece of the most bytes
 abbrev pub most_bits : ℕ

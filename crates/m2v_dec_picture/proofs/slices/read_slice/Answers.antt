@@ -31,6 +31,9 @@ returns-then-not-begins_late-clause-exact g c =
     rw c.unit_left-unit.ensures.value
     (slice_early s c.args.covered c.args.row c.args.input.now.rest c.in_ok-info.info c.header.new.input.rest n.1 n.0 c.in_ok-info.ensures.exact n.3 (late ∙ c.if-not-begins_late.true))
 
+pub macroblocks-requires-clause-references : goal.macroblocks-requires-clause-references
+macroblocks-requires-clause-references g c = (c.requires.forward, c.requires.backward)
+
 pub macroblocks-requires-clause-state : goal.macroblocks-requires-clause-state
 macroblocks-requires-clause-state g c =
     let s = c.args.basis.now.setup.now in

@@ -1,11 +1,26 @@
-use Rattle.std.proofs.Common.{subst}
+use Rattle.std.proofs.Common.{subst, sym}
 use Rattle.std.specs.Prelude.{Some, None}
 use Rattle.m2v_model.specs.declared.setup.SliceSetup.{SliceSetup}
+use Rattle.m2v_dec_picture.specs.Conditions.{HoldsForward, HoldsBackward}
 use Rattle.m2v_dec_picture.specs.Reads.{seen_by}
 use Rattle.m2v_dec_rows.specs.Opened.{slices_of, ending}
 use Rattle.m2v_dec_rows.specs.Reads.{TellsRow}
 use Rattle.m2v_dec_rows.proofs.WholeRow.{told_whole, told_fault, told_missing}
 use Rattle.m2v_dec_rows.proofs.row.read_row.Goals as goal
+
+pub read_own-requires-clause-references : goal.read_own-requires-clause-references
+read_own-requires-clause-references g c =
+    let V = g.V.RefView in (
+      subst (λ (s : SliceSetup). HoldsForward s (V.size c.args.forward.now) (V.Holds c.args.forward.now)) (sym c.setup-s.ensures) c.requires.forward,
+      subst (λ (s : SliceSetup). HoldsBackward s (V.size c.args.backward.now) (V.Holds c.args.backward.now)) (sym c.setup-s.ensures) c.requires.backward,
+    )
+
+pub missing-requires-clause-references : goal.missing-requires-clause-references
+missing-requires-clause-references g c =
+    let V = g.V.RefView in (
+      subst (λ (s : SliceSetup). HoldsForward s (V.size c.args.forward.now) (V.Holds c.args.forward.now)) (sym c.setup-s.ensures) c.requires.forward,
+      subst (λ (s : SliceSetup). HoldsBackward s (V.size c.args.backward.now) (V.Holds c.args.backward.now)) (sym c.setup-s.ensures) c.requires.backward,
+    )
 
 pub returns-then-covered-row : goal.returns-then-covered-row
 returns-then-covered-row g c =
