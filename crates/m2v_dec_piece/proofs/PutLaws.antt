@@ -6,7 +6,7 @@ use Rattle.m2v_port.specs.Ends.{Change, change}
 use Rattle.m2v_port.specs.Port.{Rose, Grows, GrowsByPrefix}
 use Rattle.m2v_port.specs.declared.error.PortError.{PortError}
 use Rattle.m2v_port.specs.declared.error.PortError.TheVariants as errors
-use Rattle.m2v_port.proofs.Runs.{rose_since, grows_on, prefix_on, prefix_of_more}
+use Rattle.m2v_port.proofs.Runs.{rose_since, grows_on, grows_by_none, prefix_on, prefix_of_more}
 use Rattle.m2v_dec_piece.specs.Putting.{PutStops}
 
 -- The output's states are o0, o1 and so on.
@@ -18,6 +18,10 @@ module _ {K : Type 0} (held : K → Option (List ℕ)) (output_faults : K → �
   pub put_stops : {T : Type 0} (o0 o1 : K) (bytes : List ℕ) (r : Result T PortError) → OnErr r (GrowsByPrefix (held o0) bytes (held o1)) → (IsErrOf r errors.Failed → Rose (output_faults o0) (output_faults o1)) → IfErr r (PutStops bytes (output o0 o1))
   put_stops o0 o1 bytes (Ok u) grown failed = tt
   put_stops o0 o1 bytes (Err e) grown failed = record { failed = λ is. failed (ap Err is); grown = grown }
+
+  -- memory ran out before anything was written
+  pub none_put : (o : K) (bytes : List ℕ) → PutStops bytes (output o o) errors.Memory
+  none_put o bytes = record { failed = λ is. absurd cc; grown = grows_by_none _ }
 
   -- more was to be written
   pub stops_more : (o0 o1 : K) (bytes more : List ℕ) (e : PortError) → PutStops bytes (output o0 o1) e → PutStops (bytes ++ more) (output o0 o1) e
