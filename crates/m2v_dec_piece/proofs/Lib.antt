@@ -9,3 +9,4 @@ pub mod SliceLaws
 pub mod Steps
 pub mod Stands
 pub mod AtOnce
+pub mod PutLaws

@@ -1,5 +1,6 @@
 pub mod Cutting
 pub mod Following
+pub mod Putting
 pub mod Reads
 pub mod Slices
 pub mod Sound
