@@ -133,7 +133,7 @@ coded_some ls b lt e same =
 -- ---- blocks
 
 -- six blocks by their number
-block_by : (f : ℕ → List ℤ) (b : ℕ) → b < 6 → block_levels (map f (range_with_len 0 6)) b ≡ f b
+pub block_by : (f : ℕ → List ℤ) (b : ℕ) → b < 6 → block_levels (map f (range_with_len 0 6)) b ≡ f b
 block_by f b lt = get_or-map-range_with_len f 0 6 b b [] lt (omega arith)
 
 blocks_stand : (c : PictureContext) (st : SliceState) (m : MacroSyntax) (f : ℕ → List ℤ)

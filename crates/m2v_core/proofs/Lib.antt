@@ -6,3 +6,4 @@ pub mod Noted
 pub mod Places
 pub mod Stays
 pub mod Steps
+pub mod Made

@@ -1,9 +1,7 @@
 -- What comes of each row, by those before it.
-use Rattle.std.proofs.Common.{◌≡◌, ℕ, zero, suc, ◌+◌, ◌<◌, Bool, true, false, cond, List, [], ◌∷◌, ◌++◌, length, get_or, Option, Some, None, refl, sym, ap, subst, ◌∙◌, arith, inl, inr}
+use Rattle.std.proofs.Common.{◌≡◌, ℕ, zero, suc, ◌+◌, ◌<◌, Bool, true, false, cond, List, [], ◌∷◌, length, Option, Some, None, refl, sym, ap, subst, ◌∙◌, arith, inl, inr}
 use Rattle.std.specs.Prelude.{IfSome, slice_get, Ok, Err}
-use Rattle.std.proofs.lemmas.Bool.{cases_lt}
-use Rattle.std.proofs.lemmas.List.{length-append, get_or_append_left}
-use Rattle.std.proofs.Math.Seq.{get_or-append_seam}
+use Rattle.m2v_core.proofs.Made.{AreMade, made_count, made_is}
 use Rattle.m2v_plane.specs.declared.dims.Dims.{Dims}
 use Rattle.m2v_plane.specs.Samples.{Samples, blank}
 use Rattle.m2v_macro.specs.declared.values.SliceState.{SliceState}
@@ -22,24 +20,15 @@ use Rattle.m2v_dec_batch.specs.Pieces.{row_of}
 use Rattle.m2v_dec_batch.specs.Values.{row_painted, outcome_by, outcome_in, outcome_of, outcome_at, rows_of, are_rebuilt, next_outcome, decoded, value_of, FitsPiece}
 use Rattle.m2v_dec_batch.proofs.Sizes.{at_picture}
 
-pub count : (b : Batch) (n : ℕ) → length (decoded b n) ≡ n
+decoded_made : (b : Batch) → AreMade (next_outcome b) (decoded b)
 unfolding decoded
-count b zero = refl
-count b (suc n) = omega (arith, length-append (decoded b n) (next_outcome b (decoded b n) ∷ []), count b n)
+decoded_made b = record { none = refl; more = λ n. refl }
+
+pub count : (b : Batch) (n : ℕ) → length (decoded b n) ≡ n
+count b = made_count (decoded_made b)
 
 piece_is : (b : Batch) (n j : ℕ) → j < n → outcome_at (decoded b n) j ≡ next_outcome b (decoded b j)
-unfolding decoded
-piece_is b zero j lt = absurd (omega arith)
-piece_is b (suc n) j lt = elim (cases_lt j n) [
-  | inl below ↦
-      let at : j < length (decoded b n) = omega (arith, below, count b n) in
-      get_or_append_left (decoded b n) (next_outcome b (decoded b n) ∷ []) After j at ∙ piece_is b n j below
-  | inr le ↦
-      let e : length (decoded b n) ≡ j = omega (arith, count b n) in
-      let f : n ≡ j = omega arith in
-      subst (λ (i : ℕ). get_or (decoded b n ++ next_outcome b (decoded b n) ∷ []) i After ≡ next_outcome b (decoded b j)) e
-      (get_or-append_seam (decoded b n) (next_outcome b (decoded b n)) [] After ∙ ap (λ (i : ℕ). next_outcome b (decoded b i)) f)
-]
+piece_is b = made_is (decoded_made b) After
 
 -- each row is made of those before it
 pub value_is : (b : Batch) (j : ℕ) → value_of b j ≡ next_outcome b (decoded b j)

@@ -1,7 +1,6 @@
 -- No start code stands inside a slice of the encoder.
-use Rattle.std.proofs.Common.{◌≡◌, ℕ, zero, suc, ◌+◌, ◌≤◌, Bool, true, false, cond, not, inl, inr, List, [], ◌∷◌, ◌++◌, length, refl, sym, ap, subst, ◌∙◌, arith, append-nil, ℤ, pos}
+use Rattle.std.proofs.Common.{◌≡◌, ℕ, zero, suc, ◌+◌, ◌≤◌, Bool, true, false, cond, not, List, [], ◌∷◌, ◌++◌, length, refl, sym, ap, subst, ◌∙◌, arith, append-nil, ℤ, pos}
 use Rattle.std.specs.Prelude.{nat_lt, replicate, slice_index}
-use Rattle.std.proofs.lemmas.Bool.{cases_lt}
 use Rattle.m2v_head.specs.Texts.{slice_text}
 use Rattle.m2v_plane.specs.Samples.{blank}
 use Rattle.m2v_macro.specs.declared.values.MacroSyntax.{MacroSyntax}
@@ -9,13 +8,13 @@ use Rattle.m2v_macro.specs.declared.values.SliceState.{SliceState}
 use Rattle.m2v_macro.specs.declared.values.PictureContext.{PictureContext}
 use Rattle.m2v_macro.specs.States.{after}
 use Rattle.m2v_macro.specs.Macros.{f_codes_of}
-use Rattle.m2v_macro.specs.Conditions.{is_used}
 use Rattle.m2v_macroblock.specs.m2v_recon.Macro.{is_coded}
 use Rattle.m2v_macroblock.specs.Macroblocks.{kind_for, predictor}
 use Rattle.m2v_slice.specs.m2v_choose.Own.{IsOwn}
 use Rattle.m2v_slice.specs.Slices.{SliceTask, begun, slice_info}
 use Rattle.m2v_slice.specs.Laws.{IsSlice}
 use Rattle.m2v_slice.proofs.Fits.{header_length}
+use Rattle.m2v_slice.proofs.m2v_choose.OwnReady.{used_forward, used_backward}
 use Rattle.m2v_model.specs.declared.fault.FaultKind.TheVariants.{VectorOutside, MissingReference}
 use Rattle.m2v_model.specs.declared.setup.SliceSetup.{SliceSetup}
 use Rattle.m2v_model.specs.Faults.{of_block, of_macro}
@@ -74,29 +73,12 @@ round_calm s short r =
 short_two : (f_code : List ℕ) → f_code ≡ 2 ∷ 2 ∷ [] → AreShort f_code
 short_two f_code e = record { across = omega (arith, ap (λ (xs : List ℕ). slice_index xs 0) e); down = omega (arith, ap (λ (xs : List ℕ). slice_index xs 1) e) }
 
-two_forward : (c : PictureContext) → IsOwn c → is_used c 0 ≡ true → f_codes_of c 0 ≡ 2 ∷ 2 ∷ []
-unfolding is_used
-two_forward c own used = elim (cases_lt c.kind 2) [
-  | inl less ↦
-      let one : c.kind ≡ 1 = omega (arith, less, own.kind.0) in
-      let none : false ≡ true = rw (one, own.concealment) at used in
-      absurd cc
-  | inr more ↦ elim (cases_lt c.kind 3) [
-    | inl less ↦ let two : c.kind ≡ 2 = omega (arith, less, more) in rw own.f_code (rw two refl)
-    | inr last ↦ let three : c.kind ≡ 3 = omega (arith, last, own.kind.1) in rw own.f_code (rw three refl)
-  ]
-]
-
-two_backward : (c : PictureContext) → IsOwn c → is_used c 1 ≡ true → f_codes_of c 1 ≡ 2 ∷ 2 ∷ []
-unfolding is_used
-two_backward c own used = rw own.f_code (rw used refl)
-
 own_short : (c : PictureContext) → IsOwn c → HasShort c
 own_short c own = record {
   low = own.kind.0;
   high = own.kind.1;
-  forward = λ used. short_two (f_codes_of c 0) (two_forward c own used);
-  backward = λ used. short_two (f_codes_of c 1) (two_backward c own used);
+  forward = λ used. short_two (f_codes_of c 0) (used_forward c own used);
+  backward = λ used. short_two (f_codes_of c 1) (used_backward c own used);
 }
 
 -- ---- slices

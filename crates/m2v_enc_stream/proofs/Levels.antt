@@ -1,11 +1,10 @@
 -- The levels of a macroblock that is chosen: six blocks of 64, all 0 where a block isn't coded.
-use Rattle.std.proofs.Common.{◌≡◌, ℕ, zero, suc, ◌+◌, ◌-◌, ◌*◌, ◌/◌, ◌%◌, ◌<◌, ◌≤◌, Bool, true, false, cond, All, List, [], ◌∷◌, ◌++◌, filter, map, length, replicate, refl, ap, sym, ◌∙◌, subst, arith, ℤ, pos, negsuc}
+use Rattle.std.proofs.Common.{◌≡◌, ℕ, zero, suc, ◌+◌, ◌-◌, ◌<◌, Bool, true, false, cond, All, List, [], ◌∷◌, ◌++◌, filter, map, length, replicate, refl, ap, sym, ◌∙◌, subst, arith, ℤ, pos, negsuc}
 use Rattle.std.specs.Prelude.{nat_eq, nat_lt, slice_index_or, unsigned_abs}
 use Rattle.std.specs.List.{range_with_len, flat_map, list_all}
 use Rattle.std.proofs.lemmas.Int.{ints}
 use Rattle.std.proofs.lemmas.Bool.{and_parts, eqb-true, eqb-false}
 use Rattle.std.proofs.lemmas.List.{length-map}
-use Rattle.std.proofs.lemmas.List.FromFn.{get_or-map-range_with_len}
 use Rattle.std.proofs.lemmas.List.Elements.{All-nil, All-cons, All-append, All-map, All-filter}
 use Rattle.m2v_quant.specs.declared.kind.BlockKind.{BlockKind}
 use Rattle.m2v_quant.specs.Quantiser.{levels_of, level_at}
@@ -22,52 +21,10 @@ use Rattle.m2v_slice.specs.m2v_choose.Candidates.{held_intra, held_levels, hold,
 use Rattle.m2v_slice.specs.m2v_choose.Choice.{score, fits, choice_of}
 use Rattle.m2v_slice.specs.m2v_choose.Trials.{is_empty}
 use Rattle.m2v_slice.proofs.m2v_choose.Chosen.{either}
+use Rattle.m2v_slice.proofs.m2v_choose.Written.{one_of, empty, pattern_bits, block_by}
 use Rattle.m2v_slice.proofs.Choices.{all_of}
 
 -- ---- patterns
-
-abbrev one_of : Bool → ℕ
-one_of z = cond z 0 1
-
-one_if : (z : Bool) (w : ℕ) → cond z 0 w ≡ w * one_of z
-one_if true w = omega arith
-one_if false w = omega arith
-
-most_one : (z : Bool) → one_of z ≤ 1
-most_one true = omega arith
-most_one false = omega arith
-
--- a number of six bits
-six : ℕ → ℕ → ℕ → ℕ → ℕ → ℕ → ℕ
-six a b c d e f = 32 * a + 16 * b + 8 * c + 4 * d + 2 * e + f
-
--- each of its bits
-record SixBits (p a b c d e f : ℕ) : Type 0 where
-  first : p / 32 % 2 ≡ a
-  second : p / 16 % 2 ≡ b
-  third : p / 8 % 2 ≡ c
-  fourth : p / 4 % 2 ≡ d
-  fifth : p / 2 % 2 ≡ e
-  sixth : p / 1 % 2 ≡ f
-
-six_bits : (a b c d e f : ℕ) → a ≤ 1 → b ≤ 1 → c ≤ 1 → d ≤ 1 → e ≤ 1 → f ≤ 1 → SixBits (six a b c d e f) a b c d e f
-unfolding six
-six_bits a b c d e f p q r s t u = record { first = omega arith; second = omega arith; third = omega arith; fourth = omega arith; fifth = omega arith; sixth = omega arith }
-
-empty : List (List ℤ) → ℕ → Bool
-empty ls b = is_empty (slice_index_or ls b [])
-
-pattern_is : (ls : List (List ℤ)) → pattern_of ls ≡ six (one_of (empty ls 0)) (one_of (empty ls 1)) (one_of (empty ls 2)) (one_of (empty ls 3)) (one_of (empty ls 4)) (one_of (empty ls 5))
-unfolding pattern_of six empty
-pattern_is ls =
-    let z = λ (b : ℕ). is_empty (slice_index_or ls b []) in
-    omega (arith, one_if (z 0) 32, one_if (z 1) 16, one_if (z 2) 8, one_if (z 3) 4, one_if (z 4) 2, one_if (z 5) 1)
-
-pattern_bits : (ls : List (List ℤ)) → SixBits (pattern_of ls) (one_of (empty ls 0)) (one_of (empty ls 1)) (one_of (empty ls 2)) (one_of (empty ls 3)) (one_of (empty ls 4)) (one_of (empty ls 5))
-pattern_bits ls =
-    let z = empty ls in
-    subst (λ (p : ℕ). SixBits p (one_of (z 0)) (one_of (z 1)) (one_of (z 2)) (one_of (z 3)) (one_of (z 4)) (one_of (z 5))) (sym (pattern_is ls))
-    (six_bits (one_of (z 0)) (one_of (z 1)) (one_of (z 2)) (one_of (z 3)) (one_of (z 4)) (one_of (z 5)) (most_one (z 0)) (most_one (z 1)) (most_one (z 2)) (most_one (z 3)) (most_one (z 4)) (most_one (z 5)))
 
 -- a bit that isn't 1 is that of a block with no level but 0
 none_if : (z : Bool) (n : ℕ) → n ≡ one_of z → nat_eq n 1 ≡ false → z ≡ true
@@ -97,13 +54,9 @@ zeros_are (z ∷ ls) e =
     λ i. here i ∷ rest i
 
 uncoded_zeros : (ls : List (List ℤ)) (b : ℕ) → b < 6 → length (block_levels ls b) ≡ 64 → is_coded (pattern_of ls) b ≡ false → block_levels ls b ≡ replicate 64 (pos 0)
-unfolding empty
 uncoded_zeros ls b lt whole e = zeros_are (block_levels ls b) (uncoded_empty ls b lt e) ∙ ap (λ (n : ℕ). replicate n (pos 0)) whole
 
 -- ---- blocks by their number
-
-block_by : (f : ℕ → List ℤ) (b : ℕ) → b < 6 → block_levels (map f (range_with_len 0 6)) b ≡ f b
-block_by f b lt = get_or-map-range_with_len f 0 6 b b [] lt (omega arith)
 
 levels_by_number : (m : MacroSyntax) (f : ℕ → List ℤ) → ((b : ℕ) → b < 6 → length (f b) ≡ 64)
     → ((b : ℕ) → b < 6 → is_coded m.pattern b ≡ false → block_levels (map f (range_with_len 0 6)) b ≡ replicate 64 (pos 0))

@@ -1,6 +1,5 @@
 -- What a decoder knows inside the encoder's stream.
-use Rattle.std.specs.Prelude.{ℕ, zero, suc, ◌-◌, ◌*◌, Bool, true, false, nat_eq, nat_lt, if◌then◌else◌, List, Option, Some, None}
-use Rattle.m2v_quant.specs.Matrices.{default_matrix}
+use Rattle.std.specs.Prelude.{ℕ, zero, suc, ◌-◌, ◌*◌, Bool, false, nat_eq, nat_lt, if◌then◌else◌, List, Option, Some, None}
 use Rattle.m2v_set.specs.declared.settings.Settings.{Settings}
 use Rattle.m2v_order.specs.declared.jobs.PictureJob.{PictureJob}
 use Rattle.m2v_slice.specs.Headers.{picture_of, extension_of}
@@ -9,21 +8,18 @@ use Rattle.m2v_slice.specs.Books.{Book, job_at}
 use Rattle.m2v_model.specs.declared.state.Open.{Open}
 use Rattle.m2v_model.specs.declared.state.FirstField.{FirstField}
 use Rattle.m2v_model.specs.declared.state.State.{State}
-use Rattle.m2v_model.specs.States.{one_anchor_more}
+use Rattle.m2v_model.specs.States.{at_first, one_anchor_more}
 use Rattle.m2v_enc_stream.specs.Trees.{sequence_by}
 
 -- once the sequence header was read: whether the group is closed, how many anchors were decoded, the first field that
 -- waits, and the picture that is open
 abbrev pub state_with : Settings → Bool → ℕ → Option FirstField → Option Open → State
-state_with s closed anchors waiting current = record {
+state_with s closed anchors waiting current = record at_first {
   first = Some (sequence_by s);
   sequence = Some (sequence_by s);
-  intra = default_matrix true;
-  non_intra = default_matrix false;
   closed_gop = closed;
   anchors = anchors;
   waiting = waiting;
-  headers_only = false;
   picture = current;
 }
 

@@ -32,20 +32,14 @@ use Rattle.m2v_encode.specs.Groups.{whole_ledger, group_text, group_shown, ancho
 -- why so many bytes weren't read
 unfoldable pub ReadStops : ℕ → Change → EncodeError → Type 0
 ReadStops size left Read = left.Failed × MovesFewer left.old size left.new
-ReadStops size left Write = ⊥
-ReadStops size left (ShortFrame extra) = ⊥
-ReadStops size left NoFrames = ⊥
-ReadStops size left TooManyFrames = ⊥
 ReadStops size left Memory = MovesFewer left.old size left.new
+ReadStops size left _ = ⊥
 
 -- why some bytes weren't written
 unfoldable pub PutStops : List ℕ → Change → EncodeError → Type 0
-PutStops bytes held Read = ⊥
 PutStops bytes held Write = held.Failed × GrowsByPrefix held.old bytes held.new
-PutStops bytes held (ShortFrame extra) = ⊥
-PutStops bytes held NoFrames = ⊥
-PutStops bytes held TooManyFrames = ⊥
 PutStops bytes held Memory = GrowsByPrefix held.old bytes held.new
+PutStops bytes held _ = ⊥
 
 -- ---- a picture
 

@@ -1,12 +1,10 @@
 -- Look-ups among the pictures of a book.
-use Rattle.std.proofs.Common.{◌≡◌, ℕ, zero, suc, ◌+◌, ◌<◌, [], ◌∷◌, ◌++◌, length, map, get_or, refl, sym, ap, subst, ◌∙◌, arith, inl, inr}
+use Rattle.std.proofs.Common.{◌≡◌, ℕ, suc, ◌+◌, ◌<◌, [], ◌∷◌, ◌++◌, length, map, get_or, refl, sym, ap, ◌∙◌, arith}
 use Rattle.std.specs.List.{range_with_len}
-use Rattle.std.proofs.lemmas.Bool.{cases_lt}
-use Rattle.std.proofs.lemmas.List.{length-append, get_or_append_left}
 use Rattle.std.proofs.lemmas.List.FromFn.{get_or-map-range_with_len, length-map-range_with_len}
-use Rattle.std.proofs.Math.Seq.{get_or-append_seam}
 use Rattle.m2v_plane.specs.Fields.{no_samples}
 use Rattle.m2v_rate.specs.Plans.{plan_of}
+use Rattle.m2v_core.proofs.Made.{AreMade, made_count, made_is}
 use Rattle.m2v_slice.specs.Slices.{CodedSlice, slice_of}
 use Rattle.m2v_slice.specs.Books.{Book, CodedPicture, rows, no_plan, picture_at, slice_at, ledger_for, task_of, next_picture, coded}
 
@@ -17,29 +15,19 @@ none = record { plan = no_plan; slices = [] }
 abbrev pub no_slice : CodedSlice
 no_slice = record { text = []; row = no_samples; work = 0 }
 
-pub count : (b : Book) (n : ℕ) → length (coded b n) ≡ n
+coded_made : (b : Book) → AreMade (next_picture b) (coded b)
 unfolding coded
-count b zero = refl
-count b (suc n) = omega (arith, length-append (coded b n) (next_picture b (coded b n) ∷ []), count b n)
+coded_made b = record { none = refl; more = λ n. refl }
+
+pub count : (b : Book) (n : ℕ) → length (coded b n) ≡ n
+count b = made_count (coded_made b)
 
 -- each picture is made of those before it
 pub picture_is : (b : Book) (n p : ℕ) → p < n → picture_at (coded b n) p ≡ next_picture b (coded b p)
-unfolding coded
-picture_is b zero p lt = absurd (omega arith)
-picture_is b (suc n) p lt = elim (cases_lt p n) [
-  | inl below ↦
-      let at : p < length (coded b n) = omega (arith, below, count b n) in
-      get_or_append_left (coded b n) (next_picture b (coded b n) ∷ []) none p at ∙ picture_is b n p below
-  | inr le ↦
-      let e : length (coded b n) ≡ p = omega (arith, count b n) in
-      let f : n ≡ p = omega arith in
-      subst (λ (i : ℕ). get_or (coded b n ++ next_picture b (coded b n) ∷ []) i none ≡ next_picture b (coded b p)) e
-      (get_or-append_seam (coded b n) (next_picture b (coded b n)) [] none ∙ ap (λ (i : ℕ). next_picture b (coded b i)) f)
-]
+picture_is b = made_is (coded_made b) none
 
 pub coded_more : (b : Book) (n : ℕ) → coded b (n + 1) ≡ coded b n ++ next_picture b (coded b n) ∷ []
-unfolding coded
-coded_more b n = ap (coded b) (let e : n + 1 ≡ suc n = omega arith in e)
+coded_more b n = ap (coded b) (let e : n + 1 ≡ suc n = omega arith in e) ∙ (coded_made b).more n
 
 -- a picture stays as it is when others are coded behind it
 pub picture_stays : (b : Book) (n m p : ℕ) → p < n → p < m → picture_at (coded b n) p ≡ picture_at (coded b m) p

@@ -63,12 +63,13 @@ shared_slice b j n = ap shared_part (value_slice b j n)
 -- ---- learning
 
 learn_plan : (b : Book) (j : ℕ) (plan : Plan) (ledger : Entries) (c : Cached)
-    → learned_of b j 0 (part.Plan plan ledger) c ≡ record c { plan = plan; ledger = ledger; bits = 0; work = 0 }
+    → learned_of b j 0 (part.Plan plan ledger) c ≡ record c { learned = record { plan = plan; ledger = ledger; bits = 0; work = 0 } }
 unfolding learned_of with_plan
 learn_plan b j plan ledger c = refl
 
 learn_bits : (b : Book) (j k : ℕ) (row : Samples) (bits work : ℕ) (c : Cached) → part_of_job b j ≡ 0
-    → learned_of b j (suc k) (part.Slice row bits work) c ≡ record c { bits = min (c.bits + bits) (2 ^ 64 - 1); work = min (c.work + work) (2 ^ 64 - 1) }
+    → learned_of b j (suc k) (part.Slice row bits work) c
+    ≡ record c { learned = record c.learned { bits = min (c.bits + bits) (2 ^ 64 - 1); work = min (c.work + work) (2 ^ 64 - 1) } }
 unfolding learned_of with_bits with_row
 learn_bits b j k row bits work c e = cond-true (nat_eq (part_of_job b j) 0) _ _ (eq-eqb (part_of_job b j) 0 e)
 
@@ -92,7 +93,7 @@ abbrev pub ledger_in : Book → ℕ → Entries
 ledger_in b j = let done = coded b (picture_of_job b j + 1) in ledger_with b done (first_open (picture_of_job b j)) done
 
 first_learned : (b : Book) (j first : ℕ) (rest : List ℕ) (c : Cached) → part_of_job b first ≡ 0
-    → learned_so_far b j (first ∷ rest) 1 c ≡ record c { plan = plan_in b first; ledger = ledger_in b first; bits = 0; work = 0 }
+    → learned_so_far b j (first ∷ rest) 1 c ≡ record c { learned = record { plan = plan_in b first; ledger = ledger_in b first; bits = 0; work = 0 } }
 unfolding cache_after
 first_learned b j first rest c e =
     ap (λ x. learned_of b j 0 x c) (shared_plan b first e) ∙ learn_plan b j (plan_in b first) (ledger_in b first) c
@@ -174,10 +175,10 @@ pub record HasBits (b : Book) (first : ℕ) (rest : List ℕ) (n : ℕ) (c : Cac
 
 next_bits : (b : Book) (j first : ℕ) (rest : List ℕ) (n : ℕ) (c : Cached) → part_of_job b j ≡ 0 → IsSliceJob b (get_or rest n 0)
     → learned_so_far b j (first ∷ rest) (suc (suc n)) c
-    ≡ (let d = learned_so_far b j (first ∷ rest) (suc n) c in record d {
+    ≡ (let d = learned_so_far b j (first ∷ rest) (suc n) c in record d { learned = record d.learned {
       bits = min (d.bits + length (slice_in b (get_or rest n 0)).text) (2 ^ 64 - 1);
       work = min (d.work + (slice_in b (get_or rest n 0)).work) (2 ^ 64 - 1);
-    })
+    } })
 next_bits b j first rest n c is need =
     let x = slice_in b (get_or rest n 0) in
     next_slice b j first rest n c need ∙ learn_bits b j n x.row (length x.text) x.work (learned_so_far b j (first ∷ rest) (suc n) c) is

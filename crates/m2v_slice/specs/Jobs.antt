@@ -54,14 +54,14 @@ told_of b j = told_part (shared_of b j)
 
 -- a plan comes first: with it counting begins
 unfoldable pub with_plan : EncodeShared → Cached → Cached
-with_plan (part.Plan plan ledger) c = record c { plan = plan; ledger = ledger; bits = 0; work = 0 }
+with_plan (part.Plan plan ledger) c = record c { learned = record { plan = plan; ledger = ledger; bits = 0; work = 0 } }
 with_plan (part.Slice row bits work) c = c
 
 -- the bits and the work of a slice more, as far as numbers of 64 bits go
 unfoldable pub with_bits : EncodeShared → Cached → Cached
 with_bits (part.Plan plan ledger) c = c
 with_bits (part.Slice row bits work) c =
-    record c { bits = min (c.bits + bits) (2 ^ 64 - 1); work = min (c.work + work) (2 ^ 64 - 1) }
+    record c { learned = record c.learned { bits = min (c.bits + bits) (2 ^ 64 - 1); work = min (c.work + work) (2 ^ 64 - 1) } }
 
 -- a row in its place
 unfoldable pub with_row : ℕ → EncodeShared → Cached → Cached

@@ -16,11 +16,17 @@ use std::marker::Model;
 /// slices that it learned of behind the plan, and rows of reference pictures. [`EncodeBook`](crate::EncodeBook) makes it.
 #[derive(Drop)]
 pub struct EncodeCache {
-    plan: Plan,
-    ledger: Ledger,
-    bits: u64,
-    work: u64,
+    learned: Learned,
     rows: KeptRows,
+}
+
+/// A plan that was learned and the ledger that knows it, and the bits and the work of the slices that were learned behind it.
+#[derive(Clone, Copy)]
+pub struct Learned {
+    pub plan: Plan,
+    pub ledger: Ledger,
+    pub bits: u64,
+    pub work: u64,
 }
 
 impl Model for EncodeCache {
@@ -28,13 +34,7 @@ impl Model for EncodeCache {
 
     ghost Value = { Cached };
 
-    ghost view = { λ c. record {
-      plan = c.plan;
-      ledger = c.ledger;
-      bits = c.bits;
-      work = c.work;
-      rows = c.rows;
-    } };
+    ghost view = { λ c. record { learned = c.learned; rows = c.rows } };
 }
 
 impl EncodeCache {
@@ -49,7 +49,7 @@ impl EncodeCache {
             (λ c. All (λ (row : Samples). row.dims ≡ dims_of settings.now) c.rows) }
     {
         let rows = KeptRows::blank(alloc, settings.dims())?;
-        Ok(EncodeCache {
+        let learned = Learned {
             plan: Plan {
                 q: 0,
                 cap: 0,
@@ -58,36 +58,15 @@ impl EncodeCache {
             ledger: *ledger,
             bits: 0,
             work: 0,
-            rows,
-        })
+        };
+        Ok(EncodeCache { learned, rows })
     }
 
-    /// The plan that it has learned.
-    pub(crate) fn plan(&self) -> &Plan
-        ensures value { result.now ≡ self.now.plan }
+    /// The plan that it has learned, and what it has learned behind it.
+    pub(crate) fn learned(&self) -> &Learned
+        ensures value { result.now ≡ self.now.learned }
     {
-        &self.plan
-    }
-
-    /// The ledger that knows the plan.
-    pub(crate) fn ledger(&self) -> &Ledger
-        ensures value { result.now ≡ self.now.ledger }
-    {
-        &self.ledger
-    }
-
-    /// The bits of slices that were counted.
-    pub(crate) fn bits(&self) -> u64
-        ensures value { result ≡ self.now.bits }
-    {
-        self.bits
-    }
-
-    /// The work of slices that was counted.
-    pub(crate) fn work(&self) -> u64
-        ensures value { result ≡ self.now.work }
-    {
-        self.work
+        &self.learned
     }
 
     /// The rows of reference pictures.
@@ -100,24 +79,27 @@ impl EncodeCache {
 
     /// Takes a plan and the ledger that knows it, and begins to count bits and work.
     pub(crate) fn take_plan(&mut self, plan: &Plan, ledger: &Ledger)
-        ensures value { self.new
-            ≡ record self.old { plan = plan.now; ledger = ledger.now; bits = 0; work = 0 } }
+        ensures value { self.new ≡ record self.old {
+          learned = record { plan = plan.now; ledger = ledger.now; bits = 0; work = 0 };
+        } }
     {
-        self.plan = *plan;
-        self.ledger = *ledger;
-        self.bits = 0;
-        self.work = 0;
+        self.learned = Learned {
+            plan: *plan,
+            ledger: *ledger,
+            bits: 0,
+            work: 0,
+        };
     }
 
     /// Counts the bits and the work of a slice more.
     pub(crate) fn add_slice(&mut self, bits: u64, work: u64)
-        ensures value { self.new ≡ record self.old {
+        ensures value { self.new ≡ record self.old { learned = record self.old.learned {
           bits = min (self.old.bits + bits) (2 ^ 64 - 1);
           work = min (self.old.work + work) (2 ^ 64 - 1);
-        } }
+        } } }
     {
-        self.bits = self.bits.saturating_add(bits);
-        self.work = self.work.saturating_add(work);
+        self.learned.bits = self.learned.bits.saturating_add(bits);
+        self.learned.work = self.learned.work.saturating_add(work);
     }
 
     /// Takes a row in its place.

@@ -35,10 +35,11 @@ impl EncodeBook {
         if p == 0 {
             return *self.ledger();
         }
-        let mut ledger = *cache.ledger();
+        let learned = cache.learned();
+        let mut ledger = learned.ledger;
         if p >= 4 {
-            let bits = header_bits(self.job(p - 4)) + cache.bits();
-            ledger.known(p - 4, bits, cache.work());
+            let bits = header_bits(self.job(p - 4)) + learned.bits;
+            ledger.known(p - 4, bits, learned.work);
         }
         ledger
     }
@@ -80,7 +81,7 @@ impl EncodeBook {
         let _book = self.pictures();
         let settings = self.settings();
         let job = self.job(p);
-        let plan = cache.plan();
+        let plan = &cache.learned().plan;
         let context = picture_context(settings, job);
         let forward = ReferenceWindow::for_slice(self, cache, p, r, forward_number(job.kind));
         let backward = ReferenceWindow::for_slice(self, cache, p, r, 0);

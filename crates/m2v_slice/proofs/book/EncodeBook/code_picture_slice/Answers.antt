@@ -4,6 +4,7 @@ use Rattle.m2v_set.specs.Numbers.{mb_width_of, rows_by}
 use Rattle.m2v_order.specs.declared.jobs.PictureJob.{PictureJob}
 use Rattle.m2v_rate.specs.declared.values.Plan.{Plan}
 use Rattle.m2v_rate.specs.Plans.{slice_cap_of}
+use Rattle.m2v_slice.specs.declared.cache.Learned.{Learned}
 use Rattle.m2v_slice.specs.Slices.{CodedSlice, most_bits_of}
 use Rattle.m2v_slice.specs.Laws.{AreSliceActivities}
 use Rattle.m2v_slice.specs.Headers.{IsJob}
@@ -21,8 +22,8 @@ picture_context-context-requires c = record {
 pub slice_cap-requires : goal.slice_cap-requires
 slice_cap-requires c =
     let good = plan_known c.args.self.now c.pictures-book.ensures.book c.args.p c.args.r c.args.cache.now c.requires.learned c.requires.picture c.requires.row in
-    let same = subst (λ (s : Settings). IsPlan s c.plan-plan.result.now) (sym c.settings-settings.ensures.value)
-    (subst (IsPlan c.args.self.now.settings) (sym c.plan-plan.ensures.value) good) in
+    let same = subst (λ (s : Settings). IsPlan s c.learned.result.now.plan) (sym c.settings-settings.ensures.value)
+    (subst (IsPlan c.args.self.now.settings) (sym (ap (λ (x : Learned). x.plan) c.learned.ensures.value)) good) in
     record {
       least = same.least;
       most = same.most;
@@ -33,13 +34,13 @@ pub code_row_slice-requires : goal.code_row_slice-requires
 code_row_slice-requires c =
     let b = c.args.self.now in
     let h = may_code b c.pictures-book.ensures.book c.args.p c.args.r c.args.cache.now c.requires.learned c.requires.picture c.requires.row
-    c.for_slice-forward.result c.for_slice-backward.result c.source.result.now c.picture_context-context.result c.plan-plan.result.now.q c.slice_cap.result
+    c.for_slice-forward.result c.for_slice-backward.result c.source.result.now c.picture_context-context.result c.learned.result.now.plan.q c.slice_cap.result
     c.settings.result.now.search c.slice_activities.result.now c.settings-settings.result.now c.job-job.result.now
     (c.for_slice-forward.ensures.value ∙ ap (λ (n : ℕ). let w : Window = record { book = b; picture = c.args.p; number = n; row = c.args.r } in w)
     (c.forward_number.ensures.value ∙ ap (λ (j : PictureJob). forward_number j.kind) c.job-job.ensures.value))
     c.for_slice-backward.ensures.value c.source.ensures.value c.settings-settings.ensures.value c.job-job.ensures.value c.picture_context-context.ensures.value
-    (ap (λ (x : Plan). x.q) c.plan-plan.ensures.value)
-    (c.slice_cap.ensures.value ∙ ap (λ (x : Plan). slice_cap_of c.settings-settings.result.now x.cap c.args.r) c.plan-plan.ensures.value)
+    (ap (λ (x : Plan). x.q) (ap (λ (x : Learned). x.plan) c.learned.ensures.value))
+    (c.slice_cap.ensures.value ∙ ap (λ (x : Plan). slice_cap_of c.settings-settings.result.now x.cap c.args.r) (ap (λ (x : Learned). x.plan) c.learned.ensures.value))
     (ap (λ (s : Settings). s.search) c.settings.ensures.value) c.slice_activities.ensures.value in
     record {
       slice = h.slice;
@@ -53,13 +54,13 @@ pub returns : goal.returns
 returns c =
     let b = c.args.self.now in
     let h = may_code b c.pictures-book.ensures.book c.args.p c.args.r c.args.cache.now c.requires.learned c.requires.picture c.requires.row
-    c.for_slice-forward.result c.for_slice-backward.result c.source.result.now c.picture_context-context.result c.plan-plan.result.now.q c.slice_cap.result
+    c.for_slice-forward.result c.for_slice-backward.result c.source.result.now c.picture_context-context.result c.learned.result.now.plan.q c.slice_cap.result
     c.settings.result.now.search c.slice_activities.result.now c.settings-settings.result.now c.job-job.result.now
     (c.for_slice-forward.ensures.value ∙ ap (λ (n : ℕ). let w : Window = record { book = b; picture = c.args.p; number = n; row = c.args.r } in w)
     (c.forward_number.ensures.value ∙ ap (λ (j : PictureJob). forward_number j.kind) c.job-job.ensures.value))
     c.for_slice-backward.ensures.value c.source.ensures.value c.settings-settings.ensures.value c.job-job.ensures.value c.picture_context-context.ensures.value
-    (ap (λ (x : Plan). x.q) c.plan-plan.ensures.value)
-    (c.slice_cap.ensures.value ∙ ap (λ (x : Plan). slice_cap_of c.settings-settings.result.now x.cap c.args.r) c.plan-plan.ensures.value)
+    (ap (λ (x : Plan). x.q) (ap (λ (x : Learned). x.plan) c.learned.ensures.value))
+    (c.slice_cap.ensures.value ∙ ap (λ (x : Plan). slice_cap_of c.settings-settings.result.now x.cap c.args.r) (ap (λ (x : Learned). x.plan) c.learned.ensures.value))
     (ap (λ (s : Settings). s.search) c.settings.ensures.value) c.slice_activities.ensures.value in
     let value = c.code_row_slice.ensures.value ∙ h.value in
     record {
