@@ -1,8 +1,9 @@
 -- Packing frame after frame: what stands after one more, and where it stops.
-use Rattle.std.proofs.Common.{◌≡◌, ℕ, ◌+◌, ◌*◌, ◌<◌, ◌≤◌, List, [], ◌∷◌, ◌++◌, length, Option, refl, sym, subst, ap, ap₂, ◌∙◌, arith, inl, inr}
+use Rattle.std.proofs.Common.{◌≡◌, ℕ, ◌+◌, ◌*◌, ◌<◌, ◌≤◌, List, [], ◌∷◌, ◌++◌, length, take, drop, Option, refl, sym, subst, ap, ap₂, ◌∙◌, arith, inl, inr}
 use Rattle.std.proofs.Math.Nat.{suc-mul}
+use Rattle.std.specs.Prelude.{codes}
 use Rattle.std.specs.List.{flat_map}
-use Rattle.std.proofs.lemmas.List.{length-append, append-nil, append_assoc}
+use Rattle.std.proofs.lemmas.List.{length-append, append-nil, append_assoc, length-drop, take-append-drop}
 use Rattle.std.proofs.lemmas.List.Concat.{flat_map-append}
 use Rattle.std.proofs.lemmas.List.Elements.{All-append, All-cons, All-nil, All-head, All-tail}
 use Rattle.m2v_port.specs.Ends.{Change, change}
@@ -16,7 +17,8 @@ use Rattle.m2v_y4m.specs.declared.answer.EncodeFault.TheVariants.{Read, Write, S
 use Rattle.m2v_y4m.specs.Frames.{AreWhole, size_of}
 use Rattle.m2v_y4m.specs.Writing.{header_text, frame_text, y4m_text}
 use Rattle.m2v_y4m.specs.Answers.{most_frames, Packed, PackedBefore, PackedPart, PackStops}
-use Rattle.m2v_y4m.specs.Packing.{SoFar, FramePacked, FrameCut, FrameStops, ReadStops, PutStops}
+use Rattle.m2v_y4m.proofs.LineLaws.{take_all}
+use Rattle.m2v_y4m.specs.Packing.{SoFar, FramePacked, FrameCut, FrameStops, ReadStops}
 
 pub raw_more : (frames : List (List ℕ)) (f : List ℕ) → raw (frames ++ f ∷ []) ≡ raw frames ++ f
 raw_more frames f = flat_map-append (λ (x : List ℕ). x) frames (f ∷ []) ∙ ap (λ (t : List ℕ). raw frames ++ t) (append-nil f)
@@ -164,12 +166,11 @@ module _ {S K : Type 0} (left : S → Option (List ℕ)) (input_faults : S → �
   unfolding PackStops ReadStops
   look_stopped h number i0 i1 i2 o0 o1 Read some small reads before s =
       (rose_since reads s.0, lost_here h number s.1.part i0 i1 i2 o0 o1 o1 small before s.1.moved (omega (arith, s.1.fewer)) refl)
-  look_stopped h number i0 i1 i2 o0 o1 Write some small reads before s = absurd s
-  look_stopped h number i0 i1 i2 o0 o1 (ShortFrame extra) some small reads before s = absurd s
-  look_stopped h number i0 i1 i2 o0 o1 TooManyFrames some small reads before s = absurd s
   look_stopped h number i0 i1 i2 o0 o1 Memory some small reads before s = lost_here h number s.part i0 i1 i2 o0 o1 o1 small before s.moved (omega (arith, s.fewer)) refl
+  look_stopped h number i0 i1 i2 o0 o1 _ some small reads before s = absurd s
 
-  line_part : (h : Y4mHeader) (bytes : List ℕ) (i0 : S) (o0 o1 : K) → 1 ≤ size_of h → bytes ≡ header_text h
+  -- the header line wasn't written whole
+  pub line_part : (h : Y4mHeader) (bytes : List ℕ) (i0 : S) (o0 o1 : K) → 1 ≤ size_of h → bytes ≡ header_text h
       → GrowsByPrefix (held o0) bytes (held o1) → PackedPart h (input i0 i0) (output o0 o1)
   line_part h bytes i0 o0 o1 some is s = record {
     frames = [];
@@ -186,33 +187,25 @@ module _ {S K : Type 0} (left : S → Option (List ℕ)) (input_faults : S → �
   unfolding PackStops
   not_begun h i0 o0 some = line_part h (header_text h) i0 o0 o0 some refl (grows_by_none (header_text h))
 
-  -- the header line wasn't written whole
-  pub line_cut : (h : Y4mHeader) (bytes : List ℕ) (i0 : S) (o0 o1 : K) (e : EncodeFault) → 1 ≤ size_of h → bytes ≡ header_text h
-      → PutStops bytes (output o0 o1) e → PackStops h (input i0 i0) (output o0 o1) e
-  unfolding PackStops PutStops
-  line_cut h bytes i0 o0 o1 Read some is s = absurd s
-  line_cut h bytes i0 o0 o1 Write some is s = (s.0, line_part h bytes i0 o0 o1 some is s.1)
-  line_cut h bytes i0 o0 o1 (ShortFrame extra) some is s = absurd s
-  line_cut h bytes i0 o0 o1 TooManyFrames some is s = absurd s
-  line_cut h bytes i0 o0 o1 Memory some is s = line_part h bytes i0 o0 o1 some is s
-
 -- a frame that wasn't read
 pub next_lost : (size : ℕ) (left held : Change) (e : EncodeFault) → held.new ≡ held.old → ReadStops size left e → FrameStops size left held e
 unfolding ReadStops FrameStops
 next_lost size left held Read same s = (s.0, record { moved = s.1; same = same })
-next_lost size left held Write same s = absurd s
-next_lost size left held (ShortFrame extra) same s = absurd s
-next_lost size left held TooManyFrames same s = absurd s
 next_lost size left held Memory same s = inl (record { moved = s; same = same })
+next_lost size left held _ same s = absurd s
 
--- a frame that wasn't written
-pub next_cut : (size : ℕ) (left held : Change) (frame bytes : List ℕ) (e : EncodeFault) → length frame ≡ size → Moves left.old frame left.new
-    → bytes ≡ frame_text frame → PutStops bytes held e → FrameStops size left held e
-unfolding PutStops FrameStops
-next_cut size left held frame bytes Read whole moved is s = absurd s
-next_cut size left held frame bytes Write whole moved is s =
-    (s.0, record { frame = frame; whole = whole; moved = moved; grown = subst (λ (b : List ℕ). GrowsByPrefix held.old b held.new) is s.1 })
-next_cut size left held frame bytes (ShortFrame extra) whole moved is s = absurd s
-next_cut size left held frame bytes TooManyFrames whole moved is s = absurd s
-next_cut size left held frame bytes Memory whole moved is s =
-    inr (record { frame = frame; whole = whole; moved = moved; grown = subst (λ (b : List ℕ). GrowsByPrefix held.old b held.new) is s })
+-- a frame that was read behind its line, and wasn't written whole
+pub frame_cut : (n size : ℕ) (left held : Change) (text : List ℕ) → take 6 text ≡ codes "FRAME\n" → length text ≡ 6 + size → size ≤ n
+    → Moves left.old (take n (drop 6 text)) left.new → GrowsByPrefix held.old text held.new → FrameCut size left held
+frame_cut n size left held text line room all moved grown = record {
+  frame = drop 6 text;
+  whole = whole;
+  moved = subst (λ (b : List ℕ). Moves left.old b left.new) (take_all n (drop 6 text) (omega (arith, whole, all))) moved;
+  grown = subst (λ (b : List ℕ). GrowsByPrefix held.old b held.new) is grown;
+}
+  where
+    whole : length (drop 6 text) ≡ size
+    whole = omega (arith, length-drop 6 text, room)
+
+    is : text ≡ frame_text (drop 6 text)
+    is = sym (take-append-drop 6 text) ∙ ap (λ l. l ++ drop 6 text) line

@@ -1,9 +1,9 @@
 -- Unpacking frame after frame: what stands after one more, and where it stops.
-use Rattle.std.proofs.Common.{◌≡◌, ℕ, ◌+◌, ◌<◌, ◌≤◌, List, [], ◌∷◌, ◌++◌, length, Option, None, refl, sym, ◌∙◌, ap, subst, arith, inl, inr, append_assoc, length-append}
+use Rattle.std.proofs.Common.{◌≡◌, ℕ, ◌+◌, ◌<◌, ◌≤◌, List, [], ◌∷◌, ◌++◌, length, take, Option, None, refl, sym, ◌∙◌, ap, subst, arith, inl, inr, append_assoc, length-append}
 use Rattle.std.proofs.lemmas.List.{append-nil}
 use Rattle.std.proofs.lemmas.List.Elements.{All-nil}
 use Rattle.m2v_port.specs.Ends.{Change, change}
-use Rattle.m2v_port.specs.Port.{IsAtEnd, Grows}
+use Rattle.m2v_port.specs.Port.{IsAtEnd, Grows, GrowsByPrefix}
 use Rattle.m2v_port.proofs.Runs.{rose_since, grows_on, grows_by_nothing}
 use Rattle.m2v_plane.specs.Raw.{raw}
 use Rattle.m2v_y4m.specs.declared.header.Y4mHeader.{Y4mHeader}
@@ -13,8 +13,9 @@ use Rattle.m2v_y4m.specs.declared.answer.UnpackError.TheVariants as errors
 use Rattle.m2v_y4m.specs.Frames.{size_of}
 use Rattle.m2v_y4m.specs.Sources.{Standing, Spot, spot, ReadOn}
 use Rattle.m2v_y4m.specs.Answers.{most_frames}
-use Rattle.m2v_y4m.specs.Reading.{Gave, comes_at, IsOver, IsBroken, GivenSoFar, FrameGiven, FrameCut, FrameStops, ReadStops, PutStops}
+use Rattle.m2v_y4m.specs.Reading.{Gave, comes_at, IsOver, IsBroken, GivenSoFar, FrameGiven, FrameCut, FrameStops, ReadStops}
 use Rattle.m2v_y4m.specs.Giving.{AllGiven, GivenLost, GivenCut, GivenBefore, GivenBroken, GivingStops}
+use Rattle.m2v_y4m.proofs.LineLaws.{take_all}
 use Rattle.m2v_y4m.proofs.Steps.{gave_on}
 use Rattle.m2v_y4m.proofs.Spots.{gave_by, read_here, read_on}
 use Rattle.m2v_y4m.proofs.Packs.{raw_more, whole_more, count_more}
@@ -166,31 +167,22 @@ module _ {S K : Type 0} (left : S → Option (List ℕ)) (input_faults : S → �
   unfolding GivingStops ReadStops
   look_stopped h number i0 i1 i2 c0 c1 c2 o0 o1 errors.Read some small reads before s =
       (rose_since reads s.0, lost_here h number s.1.part c0 c1 c2 o0 o1 o1 small (omega (arith, s.1.fewer, some)) before s.1.read refl)
-  look_stopped h number i0 i1 i2 c0 c1 c2 o0 o1 errors.Write some small reads before s = absurd s
-  look_stopped h number i0 i1 i2 c0 c1 c2 o0 o1 (errors.ShortFrame extra) some small reads before s = absurd s
-  look_stopped h number i0 i1 i2 c0 c1 c2 o0 o1 errors.TooManyFrames some small reads before s = absurd s
   look_stopped h number i0 i1 i2 c0 c1 c2 o0 o1 (errors.Y4m fault) some small reads before s =
       broken_here h number fault c0 c1 c2 o0 o1 o1 small before s.1.part (omega (arith, s.1.fewer, some)) s.1.gave s.0 refl
   look_stopped h number i0 i1 i2 c0 c1 c2 o0 o1 errors.Memory some small reads before s =
       inl (lost_here h number s.part c0 c1 c2 o0 o1 o1 small (omega (arith, s.fewer, some)) before s.read refl)
+  look_stopped h number i0 i1 i2 c0 c1 c2 o0 o1 _ some small reads before s = absurd s
 
 -- a frame that wasn't read
 pub next_lost : (size : ℕ) (left held : Change) (c1 c2 : Spot) (e : UnpackError) → held.new ≡ held.old → ReadStops size left c1 c2 e → FrameStops size left c1 c2 held e
 unfolding ReadStops FrameStops
 next_lost size left held c1 c2 errors.Read same s = (s.0, record { read = s.1; same = same })
-next_lost size left held c1 c2 errors.Write same s = absurd s
-next_lost size left held c1 c2 (errors.ShortFrame extra) same s = absurd s
-next_lost size left held c1 c2 errors.TooManyFrames same s = absurd s
 next_lost size left held c1 c2 (errors.Y4m fault) same s = record { gave = s.1; broken = s.0; same = same }
 next_lost size left held c1 c2 errors.Memory same s = inl (record { read = s; same = same })
+next_lost size left held c1 c2 _ same s = absurd s
 
--- a frame that wasn't written
-pub next_cut : (size : ℕ) (left held : Change) (c1 c2 : Spot) (frame : List ℕ) (e : UnpackError) → length frame ≡ size → ReadOn c1 frame c2
-    → PutStops frame held e → FrameStops size left c1 c2 held e
-unfolding PutStops FrameStops
-next_cut size left held c1 c2 frame errors.Read whole read s = absurd s
-next_cut size left held c1 c2 frame errors.Write whole read s = (s.0, record { frame = frame; whole = whole; read = read; grown = s.1 })
-next_cut size left held c1 c2 frame (errors.ShortFrame extra) whole read s = absurd s
-next_cut size left held c1 c2 frame errors.TooManyFrames whole read s = absurd s
-next_cut size left held c1 c2 frame (errors.Y4m fault) whole read s = absurd s
-next_cut size left held c1 c2 frame errors.Memory whole read s = inr (record { frame = frame; whole = whole; read = read; grown = s })
+-- a frame that was read, and wasn't written whole
+pub frame_cut : (n size : ℕ) (c1 c2 : Spot) (held : Change) (frame : List ℕ) → length frame ≡ size → length frame ≤ n → ReadOn c1 (take n frame) c2
+    → GrowsByPrefix held.old frame held.new → FrameCut size c1 c2 held
+frame_cut n size c1 c2 held frame whole all read grown =
+    record { frame = frame; whole = whole; read = subst (λ (b : List ℕ). ReadOn c1 b c2) (take_all n frame all) read; grown = grown }

@@ -68,15 +68,5 @@ FrameStops size left held Memory = FrameLost size left held ⊎ FrameCut size le
 -- why so many bytes weren't read
 unfoldable pub ReadStops : ℕ → Change → EncodeFault → Type 0
 ReadStops size left Read = left.Failed × MovesFewer left.old size left.new
-ReadStops size left Write = ⊥
-ReadStops size left (ShortFrame extra) = ⊥
-ReadStops size left TooManyFrames = ⊥
 ReadStops size left Memory = MovesFewer left.old size left.new
-
--- why some bytes weren't written
-unfoldable pub PutStops : List ℕ → Change → EncodeFault → Type 0
-PutStops bytes held Read = ⊥
-PutStops bytes held Write = held.Failed × GrowsByPrefix held.old bytes held.new
-PutStops bytes held (ShortFrame extra) = ⊥
-PutStops bytes held TooManyFrames = ⊥
-PutStops bytes held Memory = GrowsByPrefix held.old bytes held.new
+ReadStops size left _ = ⊥

@@ -142,17 +142,6 @@ FrameStops size left old new held errors.Memory = FrameLost size old new held �
 -- why so many raw bytes weren't read
 unfoldable pub ReadStops : ℕ → Change → Spot → Spot → UnpackError → Type 0
 ReadStops size left old new errors.Read = left.Failed × ReadFewer old size new
-ReadStops size left old new errors.Write = ⊥
-ReadStops size left old new (errors.ShortFrame extra) = ⊥
-ReadStops size left old new errors.TooManyFrames = ⊥
 ReadStops size left old new (errors.Y4m fault) = IsBroken fault (comes_at new) × GaveFewer (comes_at old) size (comes_at new)
 ReadStops size left old new errors.Memory = ReadFewer old size new
-
--- why some bytes weren't written
-unfoldable pub PutStops : List ℕ → Change → UnpackError → Type 0
-PutStops bytes held errors.Read = ⊥
-PutStops bytes held errors.Write = held.Failed × GrowsByPrefix held.old bytes held.new
-PutStops bytes held (errors.ShortFrame extra) = ⊥
-PutStops bytes held errors.TooManyFrames = ⊥
-PutStops bytes held (errors.Y4m fault) = ⊥
-PutStops bytes held errors.Memory = GrowsByPrefix held.old bytes held.new
+ReadStops size left old new _ = ⊥

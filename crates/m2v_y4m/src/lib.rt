@@ -9,7 +9,6 @@ mod lines;
 mod opening;
 mod packing;
 mod reader;
-mod source;
 mod text;
 mod unpacking;
 mod words;
@@ -18,6 +17,5 @@ pub use answer::{EncodeFault, PackSummary, UnpackError, Y4mError, Y4mFault, Y4mK
 pub use header::Y4mHeader;
 pub use laws::law_worked_rows;
 pub use packing::pack;
-pub use source::Y4mSource;
-pub use text::Y4mText;
+pub use text::{Y4mSource, Y4mText};
 pub use unpacking::unpack;

@@ -21,37 +21,41 @@ use std::marker::Model;
 /// The most bytes of a line, with its newline.
 const LINE: usize = 1024;
 
+/// What is known of the text behind its header line.
+#[derive(Drop)]
+pub(crate) struct Standing {
+    pub(crate) header: Y4mHeader,
+    /// The bytes that were read and not given yet.
+    pub(crate) unread: Chunk,
+    /// The place of the first of them.
+    pub(crate) place: u64,
+    /// How many bytes of the frame at hand are still to come, 0 before a frame line.
+    pub(crate) rest: usize,
+    /// The place of its line.
+    pub(crate) line: u64,
+    /// The fault, once a frame line broke the text.
+    pub(crate) fault: Option<Y4mFault>,
+}
+
 /// What was read of a text, as far as it matters for what comes.
 #[derive(Drop)]
 pub(crate) struct Reader {
-    header: Y4mHeader,
+    at: Standing,
     size: usize,
-    chunk: Chunk,
-    place: u64,
-    rest: usize,
-    line: u64,
-    fault: Option<Y4mFault>,
 }
 
 impl Model for Reader {
     ghost use Rattle.std.specs.Prelude.{◌≡◌, ◌≤◌};
+    ghost use Rattle.m2v_y4m.specs.declared.reader.Standing.{Standing};
     ghost use Rattle.m2v_y4m.specs.Frames.{size_of};
     ghost use Rattle.m2v_y4m.specs.Rules.{IsHeader};
-    ghost use Rattle.m2v_y4m.specs.Sources.{Standing};
 
     ghost Value = { Standing };
 
-    ghost view = { λ r. record {
-      header = r.header;
-      unread = r.chunk;
-      place = r.place;
-      rest = r.rest;
-      line = r.line;
-      fault = r.fault;
-    } };
+    ghost view = { λ r. r.at };
 
-    ghost invariant = { λ r. IsHeader r.header × (r.size ≡ size_of r.header)
-        × (r.rest ≤ r.size) };
+    ghost invariant = { λ r. IsHeader r.at.header × (r.size ≡ size_of r.at.header)
+        × (r.at.rest ≤ r.size) };
 }
 
 /// Reads on until the bytes of a longest line are there, or the text ends.
@@ -129,13 +133,15 @@ impl Reader {
                 let mut chunk = chunk;
                 chunk.pass(opening.length);
                 Ok(Reader {
-                    header: opening.header,
+                    at: Standing {
+                        header: opening.header,
+                        unread: chunk,
+                        place: opening.length as u64,
+                        rest: 0,
+                        line: 0,
+                        fault: None,
+                    },
                     size: frame_size(&opening.header),
-                    chunk,
-                    place: opening.length as u64,
-                    rest: 0,
-                    line: 0,
-                    fault: None,
                 })
             }
             Err(fault) => Err(fault),
@@ -149,14 +155,14 @@ impl Reader {
         ensures ahead { length self.now.unread ≤ most_ahead }
     {
         let _ahead = self.ahead();
-        &self.header
+        &self.at.header
     }
 
     /// The fault of the frame line that broke the text, once it was found.
     pub(crate) fn fault(&self) -> Option<Y4mFault>
         ensures value { result ≡ self.now.fault }
     {
-        self.fault
+        self.at.fault
     }
 
     /// The bytes of a raw frame.
@@ -165,7 +171,7 @@ impl Reader {
         ensures some { 1 ≤ result }
         ensures most { result ≤ 3317760 }
     {
-        let _size = frame_size(&self.header);
+        let _size = frame_size(&self.at.header);
         self.size
     }
 
@@ -174,7 +180,7 @@ impl Reader {
         ensures value { result ≡ length self.now.unread }
         ensures most { result ≤ most_ahead }
     {
-        self.chunk.len()
+        self.at.unread.len()
     }
 
     /// The text is broken here.
@@ -185,35 +191,8 @@ impl Reader {
               (record { kind = kind; place = place });
         } }
     {
-        self.fault = Some(Y4mFault { kind, place });
+        self.at.fault = Some(Y4mFault { kind, place });
         PortError::Failed
-    }
-
-    /// Reads a frame line. Answers whether there is one: none is at the end.
-    fn next_line<S: Source>(&mut self, inner: &mut S) -> Result<bool, PortError>
-        requires before { self.old.rest ≡ 0 }
-        requires unbroken { self.old.fault ≡ None }
-        ensures read { self.new.fault ≡ None → ReadOn (spot self.old (S.left inner.old)) []
-            (spot self.new (S.left inner.new)) }
-        ensures same { comes_of self.new (S.left inner.new)
-            ≡ comes_of self.old (S.left inner.old) }
-        ensures header { self.new.header ≡ self.old.header }
-        ensures inside { result ≡ Ok true → IsInside self.new }
-        ensures unbroken { OnOk result (self.new.fault ≡ None) }
-        ensures unread { result ≡ Ok false → self.new.unread ≡ [] }
-        ensures end { result ≡ Ok false → IsAtEnd (S.left inner.new) }
-        ensures over { result ≡ Ok false → IsAtEnd (told_left self.new (S.left inner.new)) }
-        ensures failed { IsErrOf result PortError.Failed
-            → Rose (S.faults inner.old) (S.faults inner.new) ⊎ IsTrue (is_some self.new.fault) }
-        ensures faults { S.faults inner.old ≤ S.faults inner.new }
-        ensures lenders { S.lenders inner.new ≡ S.lenders inner.old }
-    {
-        self.look_ahead(inner)?;
-        if self.is_drained() {
-            return Ok(false);
-        }
-        self.take_line()?;
-        Ok(true)
     }
 
     /// Whether no byte was read ahead.
@@ -221,7 +200,7 @@ impl Reader {
         ensures none { IsTrue result → self.now.unread ≡ [] }
         ensures some { IsFalse result → 1 ≤ length self.now.unread }
     {
-        self.chunk.len() == 0
+        self.at.unread.len() == 0
     }
 
     /// Reads on until the bytes of a longest line are there, or the text ends.
@@ -237,7 +216,7 @@ impl Reader {
         ensures faults { S.faults inner.old ≤ S.faults inner.new }
         ensures lenders { S.lenders inner.new ≡ S.lenders inner.old }
     {
-        gather(&mut self.chunk, inner)
+        gather(&mut self.at.unread, inner)
     }
 
     /// Takes the frame line that was read ahead.
@@ -247,16 +226,16 @@ impl Reader {
         ensures failed { IfErr result (λ e. e ≡ PortError.Failed) }
         ensures some { 1 ≤ size_of self.old.header }
     {
-        let _size = frame_size(&self.header);
-        match frame_line(self.chunk.bytes()) {
+        let _size = frame_size(&self.at.header);
+        match frame_line(self.at.unread.bytes()) {
             Ok(length) => {
-                self.chunk.pass(length);
-                self.line = self.place;
-                self.place = self.place.saturating_add(length as u64);
-                self.rest = self.size;
+                self.at.unread.pass(length);
+                self.at.line = self.at.place;
+                self.at.place = self.at.place.saturating_add(length as u64);
+                self.at.rest = self.size;
                 Ok(())
             }
-            Err(kind) => Err(self.break_at(kind, self.place)),
+            Err(kind) => Err(self.break_at(kind, self.at.place)),
         }
     }
 
@@ -274,9 +253,9 @@ impl Reader {
         ensures failed { IfErr result (λ e. e ≡ PortError.Failed) }
         ensures some { 1 ≤ size_of self.old.header }
     {
-        let _size = frame_size(&self.header);
-        if self.rest == self.size {
-            return Err(self.break_at(Y4mKind::Frame, self.line));
+        let _size = frame_size(&self.at.header);
+        if self.at.rest == self.size {
+            return Err(self.break_at(Y4mKind::Frame, self.at.line));
         }
         Ok(0)
     }
@@ -288,8 +267,8 @@ impl Reader {
         ensures value { self.new
             ≡ record self.old { rest = self.old.rest - n; place = onward self.old.place n } }
     {
-        self.rest -= n;
-        self.place = self.place.saturating_add(n as u64);
+        self.at.rest -= n;
+        self.at.place = self.at.place.saturating_add(n as u64);
     }
 
     /// Gives bytes of the frame that were read ahead.
@@ -310,9 +289,9 @@ impl Reader {
               place = onward self.old.place result;
             } }
     {
-        let n = buf.len().min(self.rest).min(self.chunk.len());
-        buf[..n].copy_from_slice(&self.chunk.bytes()[..n]);
-        self.chunk.pass(n);
+        let n = buf.len().min(self.at.rest).min(self.at.unread.len());
+        buf[..n].copy_from_slice(&self.at.unread.bytes()[..n]);
+        self.at.unread.pass(n);
         self.advance(n);
         n
     }
@@ -343,7 +322,7 @@ impl Reader {
         if !self.is_drained() {
             return Ok(self.give_held(buf));
         }
-        let n = read_part(inner, buf, self.rest)?;
+        let n = read_part(inner, buf, self.at.rest)?;
         if n == 0 {
             return self.end_inside();
         }
@@ -369,9 +348,14 @@ impl Reader {
         ensures faults { S.faults inner.old ≤ S.faults inner.new }
         ensures lenders { S.lenders inner.new ≡ S.lenders inner.old }
     {
-        if self.rest == 0 {
-            return self.next_line(inner);
+        if self.at.rest > 0 {
+            return Ok(true);
         }
+        self.look_ahead(inner)?;
+        if self.is_drained() {
+            return Ok(false);
+        }
+        self.take_line()?;
         Ok(true)
     }
 
@@ -385,8 +369,6 @@ impl Reader {
             (take n buf.new) (spot self.new (S.left inner.new))) }
         ensures stood { OnErr result (self.new.fault ≡ None
             → ReadOn (spot self.old (S.left inner.old)) [] (spot self.new (S.left inner.new))) }
-        ensures gave { IfOk result (λ n. Gave (comes_of self.old (S.left inner.old))
-            (take n buf.new) (comes_of self.new (S.left inner.new))) }
         ensures same { OnErr result (comes_of self.new (S.left inner.new)
             ≡ comes_of self.old (S.left inner.old)) }
         ensures fault { fault_to_come self.new (S.left inner.new)
@@ -411,7 +393,7 @@ impl Reader {
         ensures faults { S.faults inner.old ≤ S.faults inner.new }
         ensures lenders { S.lenders inner.new ≡ S.lenders inner.old }
     {
-        if self.fault.is_some() {
+        if self.at.fault.is_some() {
             return Err(PortError::Failed);
         }
         if buf.len() == 0 {

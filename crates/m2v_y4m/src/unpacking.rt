@@ -1,9 +1,9 @@
 ghost use Rattle.std.specs.Prelude.{ℕ, ◌≡◌, ◌⊎◌, ◌+◌, ◌<◌, ◌≤◌, [], ◌∷◌, true, false, length, take, IfOk, IfErr, OnOk, OnErr, IsErrOf, IsTrue, is_some, None, Ok};
 ghost use Rattle.m2v_port.specs.Ends.{change, SinkStays, Tells};
-ghost use Rattle.m2v_port.specs.Port.{Rose, IsAtEnd, Grows};
+ghost use Rattle.m2v_port.specs.Port.{Rose, IsAtEnd};
 ghost use Rattle.m2v_y4m.specs.Frames.{size_of};
 ghost use Rattle.m2v_y4m.specs.Sources.{comes_of, spot, ReadOn};
-ghost use Rattle.m2v_y4m.specs.Reading.{GaveFewer, ReadFewer, IsOver, FrameGiven, NoFrame, FrameStops, ReadStops, PutStops};
+ghost use Rattle.m2v_y4m.specs.Reading.{GaveFewer, ReadFewer, IsOver, FrameGiven, NoFrame, FrameStops, ReadStops};
 ghost use Rattle.m2v_y4m.specs.Giving.{AllGiven, GivingStops};
 ghost use Rattle.m2v_y4m.specs.Answers.{IsAnswered, Unpacked, UnpackStops};
 
@@ -169,8 +169,11 @@ fn next<S: Source, K: Sink>(
     if read < frame.len() {
         return Err(UnpackError::ShortFrame { extra: read as u64 });
     }
-    put(frame, output)?;
-    Ok(true)
+    match output.put(frame) {
+        Ok(()) => Ok(true),
+        Err(PortError::Failed) => Err(UnpackError::Write),
+        Err(PortError::Memory) => Err(UnpackError::Memory),
+    }
 }
 
 /// Reads bytes of the next frame until they are all there or the text ends, and says how many there are.
@@ -241,18 +244,4 @@ fn read_whole<S: Source>(
         filled += n;
     }
     Ok(filled)
-}
-
-/// Puts bytes.
-fn put<K: Sink>(bytes: &[u8], output: &mut K) -> Result<(), UnpackError>
-    requires output { IsTrue (K.ready output.old) }
-    ensures grown { OnOk result (Grows (K.held output.old) bytes.now (K.held output.new)) }
-    ensures err { IfErr result (PutStops bytes.now (change K.held K.faults output.old output.new)) }
-    ensures output { SinkStays K.ready K.name K.faults output.old output.new }
-{
-    match output.put(bytes) {
-        Ok(()) => Ok(()),
-        Err(PortError::Failed) => Err(UnpackError::Write),
-        Err(PortError::Memory) => Err(UnpackError::Memory),
-    }
 }

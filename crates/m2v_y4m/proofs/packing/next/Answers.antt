@@ -1,12 +1,9 @@
-use Rattle.std.proofs.Common.{Err, arith, refl, subst, ap, ◌∙◌, ◌≡◌, ◌<◌, ◌-◌, ◌++◌, ℕ, List, length, take, drop, length-drop, sym}
-use Rattle.std.specs.Prelude.{codes}
-use Rattle.std.proofs.lemmas.List.{length-take-le, take-append-drop}
+use Rattle.std.proofs.Common.{Err, arith, refl, ap, inr, ◌∙◌, ◌≡◌, ◌<◌, ◌-◌, length, take, drop, length-drop}
+use Rattle.std.proofs.lemmas.List.{length-take-le}
 use Rattle.std.proofs.lemmas.Result.{err_from_is_err_and}
-use Rattle.m2v_port.specs.Port.{Moves}
 use Rattle.m2v_y4m.specs.Frames.{size_of}
-use Rattle.m2v_y4m.specs.Packing.{FrameStops, PutStops}
-use Rattle.m2v_y4m.proofs.LineLaws.{take_all}
-use Rattle.m2v_y4m.proofs.Packs.{next_lost, next_cut}
+use Rattle.m2v_y4m.specs.Packing.{FrameStops}
+use Rattle.m2v_y4m.proofs.Packs.{next_lost, frame_cut}
 use Rattle.m2v_y4m.proofs.packing.next.Goals as goal
 
 pub returns-in_err-read-clause-err : goal.returns-in_err-read-clause-err
@@ -32,23 +29,13 @@ returns-then-read-size-clause-err g c =
     }
 
 pub returns-in-Err-Failed-clause-err : goal.returns-in-Err-Failed-clause-err
-unfolding PutStops
+unfolding FrameStops
 returns-in-Err-Failed-clause-err g c =
-    let text = c.read_behind_line.new.text in
-    let size : length (drop 6 text) ≡ size_of c.args.header.now = omega (arith, length-drop 6 text, c.requires.text.room, c.read_behind_line.ensures.same) in
-    let all : take c.in_ok-read.read (drop 6 text) ≡ drop 6 text = take_all c.in_ok-read.read (drop 6 text) (omega (arith, size, c.frame_size-size.ensures.value)) in
-    let is : text ≡ codes "FRAME\n" ++ drop 6 text = sym (take-append-drop 6 text) ∙ ap (λ l. l ++ drop 6 text) (c.read_behind_line.ensures.front ∙ c.requires.text.line) in
-    next_cut _ _ _ (drop 6 text) text _ size
-    (subst (λ (b : List ℕ). Moves (g.S.Source.left c.args.input.now) b (g.S.Source.left c.read_behind_line.new.input)) all c.in_ok-read.ensures.moved)
-    is (c.in-Err-Failed.ensures.failed (ap Err c.in-Err-Failed.field-0-is), c.in-Err-Failed.ensures.err)
+    let e = c.read_behind_line.ensures in
+    (c.in-Err-Failed.ensures.failed (ap Err c.in-Err-Failed.field-0-is), frame_cut c.in_ok-read.read _ _ _ c.read_behind_line.new.text (e.front ∙ c.requires.text.line) (e.same ∙ c.requires.text.room) (omega (arith, c.frame_size-size.ensures.value)) c.in_ok-read.ensures.moved c.in-Err-Failed.ensures.err)
 
 pub returns-in-Err-Memory-clause-err : goal.returns-in-Err-Memory-clause-err
-unfolding PutStops
+unfolding FrameStops
 returns-in-Err-Memory-clause-err g c =
-    let text = c.read_behind_line.new.text in
-    let size : length (drop 6 text) ≡ size_of c.args.header.now = omega (arith, length-drop 6 text, c.requires.text.room, c.read_behind_line.ensures.same) in
-    let all : take c.in_ok-read.read (drop 6 text) ≡ drop 6 text = take_all c.in_ok-read.read (drop 6 text) (omega (arith, size, c.frame_size-size.ensures.value)) in
-    let is : text ≡ codes "FRAME\n" ++ drop 6 text = sym (take-append-drop 6 text) ∙ ap (λ l. l ++ drop 6 text) (c.read_behind_line.ensures.front ∙ c.requires.text.line) in
-    next_cut _ _ _ (drop 6 text) text _ size
-    (subst (λ (b : List ℕ). Moves (g.S.Source.left c.args.input.now) b (g.S.Source.left c.read_behind_line.new.input)) all c.in_ok-read.ensures.moved)
-    is c.in-Err-Memory.ensures.err
+    let e = c.read_behind_line.ensures in
+    inr (frame_cut c.in_ok-read.read _ _ _ c.read_behind_line.new.text (e.front ∙ c.requires.text.line) (e.same ∙ c.requires.text.room) (omega (arith, c.frame_size-size.ensures.value)) c.in_ok-read.ensures.moved c.in-Err-Memory.ensures.err)

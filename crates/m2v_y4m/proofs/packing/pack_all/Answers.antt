@@ -2,20 +2,20 @@ use Rattle.std.proofs.Common.{arith, refl, ap, Ok, Err, ◌≡◌, ◌∙◌, �
 use Rattle.std.proofs.lemmas.Result.{err_from_is_err_and}
 use Rattle.m2v_port.proofs.Runs.{stays_on}
 use Rattle.m2v_y4m.specs.Frames.{size_of}
-use Rattle.m2v_y4m.specs.Packing.{PutStops}
+use Rattle.m2v_y4m.specs.Answers.{PackStops}
 use Rattle.m2v_y4m.proofs.SizeLaws.{size_some}
-use Rattle.m2v_y4m.proofs.Packs.{so_far_none, so_far_more, stopped, ended, went_on, look_stopped, line_cut}
+use Rattle.m2v_y4m.proofs.Packs.{so_far_none, so_far_more, stopped, ended, went_on, look_stopped, line_part}
 use Rattle.m2v_y4m.proofs.packing.pack_all.Goals as goal
 
 pub returns-in-Err-Failed-clause-err : goal.returns-in-Err-Failed-clause-err
-unfolding PutStops
+unfolding PackStops
 returns-in-Err-Failed-clause-err g c =
-    line_cut g.S.Source.left g.S.Source.faults g.K.Sink.held g.K.Sink.faults _ c.args.line.now _ _ _ _ (size_some c.args.header.now c.requires.header) c.requires.line (c.in-Err-Failed.ensures.failed (ap Err c.in-Err-Failed.field-0-is), c.in-Err-Failed.ensures.err)
+    (c.in-Err-Failed.ensures.failed (ap Err c.in-Err-Failed.field-0-is), line_part g.S.Source.left g.S.Source.faults g.K.Sink.held g.K.Sink.faults _ c.args.line.now _ _ _ (size_some c.args.header.now c.requires.header) c.requires.line c.in-Err-Failed.ensures.err)
 
 pub returns-in-Err-Memory-clause-err : goal.returns-in-Err-Memory-clause-err
-unfolding PutStops
+unfolding PackStops
 returns-in-Err-Memory-clause-err g c =
-    line_cut g.S.Source.left g.S.Source.faults g.K.Sink.held g.K.Sink.faults _ c.args.line.now _ _ _ _ (size_some c.args.header.now c.requires.header) c.requires.line c.in-Err-Memory.ensures.err
+    line_part g.S.Source.left g.S.Source.faults g.K.Sink.held g.K.Sink.faults _ c.args.line.now _ _ _ (size_some c.args.header.now c.requires.header) c.requires.line c.in-Err-Memory.ensures.err
 
 pub loop-number-init : goal.loop-number-init
 loop-number-init g c = record {

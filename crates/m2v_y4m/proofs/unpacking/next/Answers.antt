@@ -1,10 +1,9 @@
-use Rattle.std.proofs.Common.{arith, refl, ◌∙◌, ◌≡◌, ◌<◌, ◌≤◌, length, take}
+use Rattle.std.proofs.Common.{Err, ap, inr, arith, refl, ◌∙◌, ◌≡◌, ◌<◌, ◌≤◌, length, take}
 use Rattle.std.proofs.lemmas.List.{length-take-le}
 use Rattle.std.proofs.lemmas.Result.{err_from_is_err_and}
 use Rattle.m2v_y4m.specs.Frames.{size_of}
 use Rattle.m2v_y4m.specs.Reading.{FrameStops}
-use Rattle.m2v_y4m.proofs.LineLaws.{take_all}
-use Rattle.m2v_y4m.proofs.Unpacks.{next_lost, next_cut}
+use Rattle.m2v_y4m.proofs.Unpacks.{next_lost, frame_cut}
 use Rattle.m2v_y4m.proofs.unpacking.next.Goals as goal
 
 pub returns-in_err-read-clause-err : goal.returns-in_err-read-clause-err
@@ -46,10 +45,16 @@ returns-then-read-frame-clause-err g c =
       },
     )
 
-pub returns-in_err-put-clause-err : goal.returns-in_err-put-clause-err
-returns-in_err-put-clause-err g c =
-    let p = err_from_is_err_and c.from_residual-in_err-put.result c.from_residual-in_err-put.ensures.1 in
+pub returns-in-Err-Failed-clause-err : goal.returns-in-Err-Failed-clause-err
+unfolding FrameStops
+returns-in-Err-Failed-clause-err g c =
     let frame = c.read_frame.new.frame in
     let size : length frame ≡ size_of c.args.reader.now.header = c.read_frame.ensures.same ∙ c.requires.frame in
-    let all : take c.in_ok-read.read frame ≡ frame = take_all c.in_ok-read.read frame (omega arith) in
-    rw (p.1, p.2) (next_cut _ _ _ _ _ frame _ size (rw all at c.in_ok-read.ensures.read) c.in_err-put.ensures.err)
+    (c.in-Err-Failed.ensures.failed (ap Err c.in-Err-Failed.field-0-is), frame_cut c.in_ok-read.read _ _ _ _ frame size (omega arith) c.in_ok-read.ensures.read c.in-Err-Failed.ensures.err)
+
+pub returns-in-Err-Memory-clause-err : goal.returns-in-Err-Memory-clause-err
+unfolding FrameStops
+returns-in-Err-Memory-clause-err g c =
+    let frame = c.read_frame.new.frame in
+    let size : length frame ≡ size_of c.args.reader.now.header = c.read_frame.ensures.same ∙ c.requires.frame in
+    inr (frame_cut c.in_ok-read.read _ _ _ _ frame size (omega arith) c.in_ok-read.ensures.read c.in-Err-Memory.ensures.err)

@@ -8,10 +8,6 @@ returns-in-Ok-true-clause-moved g c =
     read_moved c.give.result c.args.self.now c.give.new.self _ _ c.give.new.buf
     (read_gave c.give.result _ _ c.give.new.buf _ c.in-Ok-true.ensures.same c.give.ensures.gave)
 
-pub returns-in-Ok-true-clause-gave : goal.returns-in-Ok-true-clause-gave
-returns-in-Ok-true-clause-gave g c =
-    read_gave c.give.result _ _ c.give.new.buf _ c.in-Ok-true.ensures.same c.give.ensures.gave
-
 pub returns-in-Ok-true-clause-over : goal.returns-in-Ok-true-clause-over
 returns-in-Ok-true-clause-over g c = λ is some. is_over c.give.new.self _ (c.give.ensures.over is)
 
