@@ -1,7 +1,7 @@
 -- Piece after piece: what stands of the judge between two pieces, whatever follows.
 use Rattle.std.proofs.Common.{◌≡◌, ℕ, ◌+◌, ◌*◌, ◌≤◌, Bool, true, false, List, [], ◌∷◌, ◌++◌, length, Option, Some, None, Ok, Err, ◌⊎◌, inl, inr, refl, sym, ap, subst, ◌∙◌, append_assoc, arith}
 use Rattle.std.specs.Prelude.{IfSome, if◌then◌else◌}
-use Rattle.std.proofs.lemmas.List.{append-nil, length-append}
+use Rattle.std.proofs.lemmas.List.{length-append}
 use Rattle.m2v_port.specs.Ends.{Change, change}
 use Rattle.m2v_model.specs.declared.phase.Phase.TheVariants.{Before}
 use Rattle.m2v_model.specs.declared.state.Sequence.{Sequence}
@@ -14,8 +14,8 @@ use Rattle.m2v_model.specs.PieceNotes.{PieceNotes, noted, notes_of, first_note}
 use Rattle.m2v_model.specs.Pieces.{pieces, grouped}
 use Rattle.m2v_model.specs.Lawful.{numbered, all_numbered}
 use Rattle.m2v_model.specs.Buffering.{code_bits}
-use Rattle.m2v_model.specs.ByPieces.{Between, Course, at_start as text_start, piece_read, continued, pieces_read, units_read, end_of, IsOne, TellInTurn}
-use Rattle.m2v_model.proofs.PieceLaws.{placed, piece_is, pieces_read-append, end_of-append}
+use Rattle.m2v_model.specs.ByPieces.{Between, Course, at_start as text_start, piece_read, pieces_read, units_read, end_of, IsOne, TellInTurn}
+use Rattle.m2v_model.proofs.PieceLaws.{placed, piece_is, end_of-append}
 use Rattle.m2v_model.proofs.TurnLaws.{pictures_in_turn}
 use Rattle.m2v_model.proofs.EventLaws.{pictures_in-append}
 use Rattle.m2v_dec_piece.specs.declared.answer.Piece.{Piece}
@@ -25,7 +25,7 @@ use Rattle.m2v_decode.specs.Decoding.{Decoding, at_start, between, Advanced, who
 use Rattle.m2v_decode.specs.Answers.{start_of}
 use Rattle.m2v_decode.specs.Reading.{Reading, Follows}
 use Rattle.m2v_decode.specs.Progress.{before_all, HasPut, Progress}
-use Rattle.m2v_decode.proofs.Going.{gave, moved_some}
+use Rattle.m2v_decode.proofs.Going.{gave, moved_some, read_more}
 use Rattle.m2v_check.specs.declared.judge.Judge.{Judge}
 use Rattle.m2v_check.specs.Running.{no_rules}
 use Rattle.m2v_check.specs.Progress.{no_output}
@@ -46,13 +46,6 @@ units_of_piece b end p x e = placed_ok end (units_read b (cut 0 p).1) x (sym (pi
 
 read_at : (b : Between) (end other : ℕ) (p : List ℕ) (x : Events × Between) → piece_read b end p ≡ Ok x → piece_read b other p ≡ Ok x
 read_at b end other p x e = piece_is b other p ∙ ap (placed other) (units_of_piece b end p x e)
-
-read_on : (ps : List (List ℕ)) (at : ℕ) (p : List ℕ) (st mid last : Between) (xs ys : Events) → pieces_read st at ps ≡ Ok (xs, mid) → piece_read mid (end_of at ps + length p) p ≡ Ok (ys, last)
-    → pieces_read st at (ps ++ p ∷ []) ≡ Ok (xs ++ ys, last)
-unfolding pieces_read continued
-read_on ps at p st mid last xs ys first next =
-    pieces_read-append ps (p ∷ []) st at
-    ∙ rw (first, next) (ap (λ (t : Events). Ok (xs ++ t, last)) (append-nil ys))
 
 end_on : (ps : List (List ℕ)) (at : ℕ) (p : List ℕ) → end_of at (ps ++ p ∷ []) ≡ end_of at ps + length p
 unfolding end_of
@@ -157,7 +150,7 @@ judged_on text whole others d m n place len notes j k so a put on =
       first = so.first ++ whole ∷ [];
       are = so.are ∙ sym (append_assoc so.first (whole ∷ []) others);
       events = so.events ++ fs;
-      read = read_on so.first (start_of text) whole text_start (between d) (between n) so.events fs so.read read;
+      read = read_more so.first (start_of text) whole text_start (between d) (between n) so.events fs so.read read;
       says = says;
       shut = new.1;
       turn = subst (λ (x : ℕ). TellInTurn (between n) x others) (sym end) turn.1;

@@ -140,14 +140,16 @@ decoded_more b x h f p y e = elim (cases_lt p (length b.pictures)) [
 pub appended : (b : Batch) (x : BatchPicture) → IsBatch b → length b.pictures < 16 → IsOpened x.piece x.opened → x.opened.dims ≡ b.dims → Follows b (header_of x)
     → HasFields x.opened.references (reading_of (header_of x)) (at_hand b (length b.pictures)) → IsBatch (more b x)
 appended b x h few opened size f fields = record {
-  size = h.size;
-  few = omega (arith, few, count_more b x);
-  opened = All-push (λ (y : BatchPicture). IsOpened y.piece y.opened) b.pictures x h.opened opened;
-  sizes = All-push (λ (y : BatchPicture). y.opened.dims ≡ b.dims) b.pictures x h.sizes size;
+  pictures_are = record {
+    size = h.size;
+    few = omega (arith, few, count_more b x);
+    opened = All-push (λ (y : BatchPicture). IsOpened y.piece y.opened) b.pictures x h.opened opened;
+    sizes = All-push (λ (y : BatchPicture). y.opened.dims ≡ b.dims) b.pictures x h.sizes size;
+    field = field_more b x h f;
+    pairs = pairs_more b x h f;
+  };
   frames_fit = h.frames_fit;
-  field = field_more b x h f;
   first = first_more b x h f;
-  pairs = pairs_more b x h f;
   decoded = decoded_more b x h fields;
 }
 

@@ -28,14 +28,9 @@ any_sized d false = tt
 -- a batch of no picture
 pub batch_none : (d : Dims) (before : FramesThere) → IsSize d → IsBatch (batch_of d [] before)
 batch_none d before size = record {
-  size = size;
-  few = search rules;
-  opened = search rules;
-  sizes = search rules;
+  pictures_are = record { size = size; few = search rules; opened = search rules; sizes = search rules; field = search rules; pairs = search rules };
   frames_fit = record { older = any_sized d before.older; newer = any_sized d before.newer; waiting = any_sized d before.first };
-  field = search rules;
   first = search rules;
-  pairs = search rules;
   decoded = search rules;
 }
 
@@ -67,13 +62,8 @@ decoded_exchanged b f h t p x is =
 -- the batch stays one
 pub exchanged : (b : Batch) (f : FramesAtHand) → IsBatch b → AreThere f b → HaveDims b.dims f → IsBatch (with_frames b f)
 exchanged b f h t sizes = record {
-  size = h.size;
-  few = h.few;
-  opened = h.opened;
-  sizes = h.sizes;
+  pictures_are = h.pictures_are;
   frames_fit = sizes;
-  field = h.field;
   first = λ second. waiting_there f.waiting b.waiting t.waiting (h.first second);
-  pairs = h.pairs;
   decoded = decoded_exchanged b f h t;
 }

@@ -25,6 +25,10 @@ pub record Batch : Type 0 where
   pub newer : Option Samples
   pub waiting : Option Samples
 
+-- the same of each
+abbrev pub batch_by : Dims → List BatchPicture → Option Samples → Option Samples → Option Samples → Batch
+batch_by dims pictures older newer waiting = record { dims = dims; pictures = pictures; older = older; newer = newer; waiting = waiting }
+
 abbrev pub header_of : BatchPicture → Header
 header_of x = record {
   kind = x.opened.context.kind;
@@ -108,16 +112,21 @@ pub record HaveDims (d : Dims) (f : FramesAtHand) : Type 0 where
   pub newer : IfSome f.newer (λ x. x.dims ≡ d)
   pub waiting : IfSome f.waiting (λ x. x.dims ≡ d)
 
+-- at most 16 pictures of one size, whose headers were read, and the pictures of which one is a second field
+pub record ArePictures (d : Dims) (pictures : List BatchPicture) : Type 0 where
+  pub size : IsSize d
+  pub few : length pictures ≤ 16
+  pub opened : All (λ (x : BatchPicture). IsOpened x.piece x.opened) pictures
+  pub sizes : All (λ (x : BatchPicture). x.opened.dims ≡ d) pictures
+  pub field : (p : ℕ) → (header_at (map header_of pictures) p).second ≡ true → (header_at (map header_of pictures) p).structure ≤ 2
+  pub pairs : (p : ℕ) → (header_at (map header_of pictures) (suc p)).second ≡ true → ArePair (header_at (map header_of pictures) p) (header_at (map header_of pictures) (suc p))
+
 -- A batch: at most 16 pictures of one size, whose headers were read. A second field follows its first field, or that waits;
 -- and each field that a picture may read is there, in the batch or before it.
 pub record IsBatch (b : Batch) : Type 0 where
-  pub size : IsSize b.dims
-  pub few : length b.pictures ≤ 16
-  pub opened : All (λ (x : BatchPicture). IsOpened x.piece x.opened) b.pictures
-  pub sizes : All (λ (x : BatchPicture). x.opened.dims ≡ b.dims) b.pictures
+  pub pictures_are : ArePictures b.dims b.pictures
+  pub open pictures_are use *
   pub frames_fit : HaveDims b.dims (record { older = b.older; newer = b.newer; waiting = b.waiting })
   pub open frames_fit use *
-  pub field : (p : ℕ) → (header_at (headers b) p).second ≡ true → (header_at (headers b) p).structure ≤ 2
   pub first : (header_at (headers b) 0).second ≡ true → IsSome b.waiting
-  pub pairs : (p : ℕ) → (header_at (headers b) (suc p)).second ≡ true → ArePair (header_at (headers b) p) (header_at (headers b) (suc p))
   pub decoded : (p : ℕ) (x : BatchPicture) → slice_get b.pictures p ≡ Some x → HasReferences x.opened.references (frames_for b no_rows p)

@@ -39,26 +39,15 @@ pub struct DecodeBook {
 impl Model for DecodeBook {
     ghost use Rattle.std.specs.Prelude.{ℕ, ◌≤◌, map, length, slice_index_or};
     ghost use Rattle.m2v_dec_batch.specs.declared.reads.Before.{Before};
-    ghost use Rattle.m2v_dec_batch.specs.Batches.{Batch, header_of, IsBatch};
+    ghost use Rattle.m2v_dec_batch.specs.Batches.{Batch, batch_by, header_of, IsBatch};
     ghost use Rattle.m2v_dec_batch.specs.Below.{IsBefore};
 
     ghost Value = { Batch };
 
-    ghost view = { λ b. record {
-      dims = b.dims;
-      pictures = b.pictures.items;
-      older = b.older;
-      newer = b.newer;
-      waiting = b.waiting;
-    } };
+    ghost view = { λ b. batch_by b.dims b.pictures.items b.older b.newer b.waiting };
 
-    ghost invariant = { λ b. IsBatch (record {
-      dims = b.dims;
-      pictures = b.pictures.items;
-      older = b.older;
-      newer = b.newer;
-      waiting = b.waiting;
-    }) × ((p : ℕ) (d : Before) → p ≤ length b.pictures.items
+    ghost invariant = { λ b. IsBatch (batch_by b.dims b.pictures.items b.older b.newer b.waiting)
+        × ((p : ℕ) (d : Before) → p ≤ length b.pictures.items
         → IsBefore (map header_of b.pictures.items) p (slice_index_or b.before p d)) };
 }
 

@@ -54,7 +54,7 @@ unfolding end_of
 fit_more [] at p fit next = (next, tt)
 fit_more (q ∷ ps) at p fit next = (fit.0, fit_more ps (at + length q) p fit.1 next)
 
-read_more : (ps : List (List ℕ)) (at : ℕ) (p : List ℕ) (st mid last : Between) (xs ys : Events) → pieces_read st at ps ≡ Ok (xs, mid) → piece_read mid (end_of at ps + length p) p ≡ Ok (ys, last)
+pub read_more : (ps : List (List ℕ)) (at : ℕ) (p : List ℕ) (st mid last : Between) (xs ys : Events) → pieces_read st at ps ≡ Ok (xs, mid) → piece_read mid (end_of at ps + length p) p ≡ Ok (ys, last)
     → pieces_read st at (ps ++ p ∷ []) ≡ Ok (xs ++ ys, last)
 unfolding pieces_read continued
 read_more ps at p st mid last xs ys first next =

@@ -290,7 +290,7 @@ painted old s p row u g text rest end sound known is unread below text_is h size
       sizes = sizes_painted old.state.first s f g (subst (λ (q : Option Sequence). HaveSizes old.state.first q f) known (sound.frames).sizes) sizes;
       frame = subst (HasFrame p) (sym now) (record { reading = frame.reading; current = λ e. some_painted _ f.current (frame.current e); decoded = λ e. let r = frame.decoded e in record { top = r.top; bottom = r.bottom; back_top = r.back_top; back_bottom = r.back_bottom }; none = λ on. absurd cc });
       current = there;
-      others = record { state = refl; queue = refl; ready = refl; pictures = refl; dropped = refl; notes = refl; code_end = refl; shown = refl };
+      others = record { counts = record { stays = record { state = refl; shown = refl; code_end = refl }; pictures = refl; dropped = refl; notes = refl }; queue = refl; ready = refl };
     }
 
 -- what the slices of the picture that is open are read by, as the program has it

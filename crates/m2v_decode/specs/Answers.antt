@@ -113,6 +113,10 @@ pub record OfTaken (left : Change) (Holds : List ℕ → List ℕ → Type 0) : 
   pub moved : Moves left.old bytes left.new
   pub told : (rest : List ℕ) → left.new ≡ Some rest → Holds bytes (bytes ++ rest)
 
+-- The text that was read is such a stream.
+abbrev pub HasDecoded : Change → Change → Decoded → Type 0
+HasDecoded left held d = OfText left (λ text. IsDecoded text held d)
+
 -- When each error comes, and what stands then.
 abbrev pub Fails : Change → Change → DecodeError → Type 0
 Fails left held errors.Read = left.Failed × OfTaken left (λ bytes text. IsCut bytes text held)

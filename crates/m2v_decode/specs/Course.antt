@@ -157,26 +157,35 @@ abbrev pub frame_list : Option Samples → ℕ → List (Samples × ℕ)
 frame_list None kind = []
 frame_list (Some frame) kind = (frame, kind) ∷ []
 
+-- the headers in force stay, how many frames were shown, and where the piece's picture start code ends
+pub record Stays (old new : Course) : Type 0 where
+  pub state : new.state ≡ old.state
+  pub shown : new.shown ≡ old.shown
+  pub code_end : new.code_end ≡ old.code_end
+
+-- and no picture is counted or noted
+pub record CountsStay (old new : Course) : Type 0 where
+  pub stays : Stays old new
+  pub open stays use *
+  pub pictures : new.pictures ≡ old.pictures
+  pub dropped : new.dropped ≡ old.dropped
+  pub notes : noted new.notes ≡ noted old.notes
+
 -- a frame, if there is one, is shown at once, or held and another one shown in its place
 pub record Showed (old : Course) (frame : Option Samples) (kind : ℕ) (new : Course) : Type 0 where
   pub ready : new.ready.items ≡ old.ready.items ++ handed old.queue (frame_list frame kind)
   pub queue : new.queue ≡ held_after old.queue (frame_list frame kind)
-  pub pictures : new.pictures ≡ old.pictures
-  pub dropped : new.dropped ≡ old.dropped
-  pub notes : noted new.notes ≡ noted old.notes
-  pub code_end : new.code_end ≡ old.code_end
-  pub shown : new.shown ≡ old.shown
-  pub state : new.state ≡ old.state
   pub gallery : new.gallery ≡ old.gallery
+  pub counts : CountsStay old new
+  pub open counts use *
 
 -- a picture is counted, and noted where it is the first of its piece; the headers in force stay
 pub record Counts (old : Course) (p : Open) (new : Course) : Type 0 where
+  pub stays : Stays old new
+  pub open stays use *
   pub pictures : new.pictures ≡ old.pictures + 1
   pub dropped : new.dropped ≡ old.dropped + (if p.dropped then 1 else 0)
   pub notes : (store : Store) → noted new.notes ≡ with_events old.code_end (noted old.notes) (closed (Some p) store)
-  pub code_end : new.code_end ≡ old.code_end
-  pub shown : new.shown ≡ old.shown
-  pub state : new.state ≡ old.state
 
 -- a picture ended: it is counted and noted
 pub record Counted (old : Course) (p : Open) (new : Course) : Type 0 where
@@ -207,14 +216,10 @@ pub record Closed (old new : Course) : Type 0 where
 
 -- the frames at hand alone change
 pub record FramesAlone (old new : Course) : Type 0 where
-  pub state : new.state ≡ old.state
+  pub counts : CountsStay old new
+  pub open counts use *
   pub queue : new.queue ≡ old.queue
   pub ready : new.ready ≡ old.ready
-  pub pictures : new.pictures ≡ old.pictures
-  pub dropped : new.dropped ≡ old.dropped
-  pub notes : noted new.notes ≡ noted old.notes
-  pub code_end : new.code_end ≡ old.code_end
-  pub shown : new.shown ≡ old.shown
 
 -- the frame of a picture that begins is at hand
 pub record Begun (old : Course) (p : Open) (new : Course) : Type 0 where

@@ -37,18 +37,7 @@ between d = record { state = d.state; store = store_of d.frames }
 
 -- before the first piece
 abbrev pub at_start : Decoding
-at_start = record {
-  state = at_first;
-  frames = none_at_hand;
-  anchor = None;
-  ready = [];
-  ended = false;
-  failed = false;
-  skims = false;
-  pictures = 0;
-  dropped = 0;
-  shown = 0;
-}
+at_start = record { state = at_first; frames = none_at_hand; anchor = None; ready = []; ended = false; failed = false; skims = false; pictures = 0; dropped = 0; shown = 0 }
 
 -- the headers of a piece may be read alone: no call answered an error
 abbrev pub CanSkim : Decoding → Type 0

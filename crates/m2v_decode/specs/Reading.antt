@@ -3,6 +3,7 @@ use Rattle.std.specs.Prelude.{◌≡◌, ℕ, ◌+◌, Bool, false, List, length
 use Rattle.m2v_model.specs.declared.notes.Notes.{Notes}
 use Rattle.m2v_model.specs.declared.state.State.{State}
 use Rattle.m2v_model.specs.States.{at_first}
+use Rattle.m2v_decode.specs.declared.pass.Pass.{Pass}
 use Rattle.m2v_decode.specs.Decoding.{Decoding, Advanced}
 
 -- the headers in force between two pieces; how many pictures were read, how many of them dropped, and how many frames the
@@ -14,6 +15,10 @@ pub record Reading : Type 0 where
   pub frames : ℕ
   pub ended : Bool
   pub failed : Bool
+
+-- what contracts see of a reader
+abbrev pub read_by : Pass → Bool → Bool → Reading
+read_by c ended failed = record { state = c.state; pictures = c.pictures; dropped = c.dropped; frames = c.frames; ended = ended; failed = failed }
 
 -- before the first piece
 abbrev pub nothing_read : Reading

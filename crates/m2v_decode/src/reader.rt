@@ -31,19 +31,12 @@ pub struct Reader {
 }
 
 impl Model for Reader {
-    ghost use Rattle.m2v_decode.specs.Reading.{Reading};
+    ghost use Rattle.m2v_decode.specs.Reading.{Reading, read_by};
     ghost use Rattle.m2v_decode.specs.Passing.{IsSoundReader};
 
     ghost Value = { Reading };
 
-    ghost view = { λ r. record {
-      state = r.pass.state;
-      pictures = r.pass.pictures;
-      dropped = r.pass.dropped;
-      frames = r.pass.frames;
-      ended = r.ended;
-      failed = r.failed;
-    } };
+    ghost view = { λ r. read_by r.pass r.ended r.failed };
 
     ghost invariant = { λ r. IsSoundReader r.pass r.failed };
 }
