@@ -15,9 +15,8 @@ use Rattle.m2v_flat.proofs.Rules.{parts_none}
 pub flat_lawful : (s : FlatSettings) (frames : List (List ℕ)) → HasPassed s → 1 ≤ length frames → Lawful (Flat s frames)
 flat_lawful s frames passed some =
     let x = flat_tree s frames passed some in
-    let low = low_delay_of x.tree.state.first in
     record {
       tree = x.tree;
       stream = x.stream;
-      lawful = ap (λ (ps : List Part). breaches low (events_from at_first no_frames ps)) x.parts ∙ parts_none s low frames passed;
+      lawful = ap (λ (ps : List Part). breaches (low_delay_of x.tree.state.first) (events_from at_first no_frames ps)) x.parts ∙ parts_none s (low_delay_of x.tree.state.first) frames passed;
     }

@@ -17,7 +17,7 @@ use Rattle.m2v_flat.specs.declared.answer.EncodeError.{EncodeError}
 use Rattle.m2v_flat.specs.declared.answer.EncodeError.TheVariants.{Read, Write, ShortFrame, NoFrames, TooManyFrames, Memory}
 use Rattle.m2v_flat.specs.Flat.{Flat, FlatBegun, FlatFrame}
 use Rattle.m2v_flat.specs.Answers.{AreWhole, most_frames, FlatCoded, FlatUnended, CutOff, FlatStops}
-use Rattle.m2v_flat.specs.Steps.{SoFar, Unwritten, NextCoded, NextCut, NextNone, NextStops, EndStops, ReadStops}
+use Rattle.m2v_flat.specs.Steps.{SoFar, Unwritten, NextCoded, NextCut, NextNone, NextStops, EndStops, StoppedBy, ReadStops}
 use Rattle.m2v_flat.proofs.Edges.{bytes_more, bytes_end, begun_none, flat_none}
 
 pub some_bytes : (d : Dims) → IsSize d → 0 < frame_bytes d
@@ -276,23 +276,26 @@ module _ {S K : Type 0} (left : S → Option (List ℕ)) (input_faults : S → �
       → SoFar s number bytes (input i0 i1) (output o0 o1)
       → ReadStops 1 (input i1 i2) e
       → FlatStops s (input i0 i2) (output o0 o1) e
-  unfolding FlatStops ReadStops
-  look_stopped s number bytes i0 i1 i2 o0 o1 Read size small reads before h =
-      let lost = h.1 in (
-        rose_since reads h.0,
+  unfolding FlatStops
+  look_stopped s number bytes i0 i1 i2 o0 o1 e size small reads before h = by_why h.why
+    where
+      less : length h.moved.part < frame_bytes s.dims
+      less = omega (arith, h.moved.fewer, some_bytes s.dims size)
+
+      kept : Unwritten (output o1 o1)
+      kept = record { same = refl; stays = refl }
+
+      by_why : StoppedBy Read (input i1 i2) e → FlatStops s (input i0 i2) (output o0 o1) e
+      by_why (inl failed) = rw failed.0 (
+        rose_since reads failed.1,
         record {
           frames = before.frames;
-          part = lost.part;
-          begun = begun_here s number bytes lost.part i0 i1 i2 o0 o1 o1 small before lost.moved (record { same = refl; stays = refl });
-          less = omega (arith, lost.fewer, some_bytes s.dims size);
+          part = h.moved.part;
+          begun = begun_here s number bytes h.moved.part i0 i1 i2 o0 o1 o1 small before h.moved.moved kept;
+          less = less;
         },
       )
-  look_stopped s number bytes i0 i1 i2 o0 o1 Write size small reads before h = absurd h
-  look_stopped s number bytes i0 i1 i2 o0 o1 (ShortFrame extra) size small reads before h = absurd h
-  look_stopped s number bytes i0 i1 i2 o0 o1 NoFrames size small reads before h = absurd h
-  look_stopped s number bytes i0 i1 i2 o0 o1 TooManyFrames size small reads before h = absurd h
-  look_stopped s number bytes i0 i1 i2 o0 o1 Memory size small reads before h =
-      lost_here s number bytes h.part i0 i1 i2 o0 o1 o1 small before h.moved (omega (arith, h.fewer, some_bytes s.dims size)) (record { same = refl; stays = refl })
+      by_why (inr memory) = rw memory (lost_here s number bytes h.moved.part i0 i1 i2 o0 o1 o1 small before h.moved.moved less kept)
 
   -- coding didn't begin
   pub not_begun : (s : FlatSettings) (i0 : S) (o0 : K) → IsSize s.dims → FlatStops s (input i0 i0) (output o0 o0) Memory

@@ -91,20 +91,16 @@ EndStops number held NoFrames = (number ≡ 0) × Unwritten held
 EndStops number held TooManyFrames = ⊥
 EndStops number held Memory = (0 < number) × GrowsByPrefix held.old (packed (start_code 0xB7)) held.new
 
--- why so many bytes weren't read
-unfoldable pub ReadStops : ℕ → Change → EncodeError → Type 0
-ReadStops size left Read = left.Failed × MovesFewer left.old size left.new
-ReadStops size left Write = ⊥
-ReadStops size left (ShortFrame extra) = ⊥
-ReadStops size left NoFrames = ⊥
-ReadStops size left TooManyFrames = ⊥
-ReadStops size left Memory = MovesFewer left.old size left.new
+-- a call stopped with this error: its endpoint failed, for which the first error stands, or memory ran out
+abbrev pub StoppedBy : EncodeError → Change → EncodeError → Type 0
+StoppedBy failed end e = ((e ≡ failed) × end.Failed) ⊎ (e ≡ Memory)
 
--- why some bytes weren't written
-unfoldable pub PutStops : List ℕ → Change → EncodeError → Type 0
-PutStops bytes held Read = ⊥
-PutStops bytes held Write = held.Failed × GrowsByPrefix held.old bytes held.new
-PutStops bytes held (ShortFrame extra) = ⊥
-PutStops bytes held NoFrames = ⊥
-PutStops bytes held TooManyFrames = ⊥
-PutStops bytes held Memory = GrowsByPrefix held.old bytes held.new
+-- so many bytes weren't read
+pub record ReadStops (size : ℕ) (left : Change) (e : EncodeError) : Type 0 where
+  pub why : StoppedBy Read left e
+  pub moved : MovesFewer left.old size left.new
+
+-- some bytes weren't written whole
+pub record PutStops (bytes : List ℕ) (held : Change) (e : EncodeError) : Type 0 where
+  pub why : StoppedBy Write held e
+  pub grown : GrowsByPrefix held.old bytes held.new

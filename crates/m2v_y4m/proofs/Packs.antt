@@ -1,5 +1,5 @@
 -- Packing frame after frame: what stands after one more, and where it stops.
-use Rattle.std.proofs.Common.{◌≡◌, ℕ, ◌+◌, ◌*◌, ◌<◌, ◌≤◌, List, [], ◌∷◌, ◌++◌, length, take, drop, Option, refl, sym, subst, ap, ap₂, ◌∙◌, arith, inl, inr}
+use Rattle.std.proofs.Common.{◌≡◌, ℕ, ◌+◌, ◌*◌, ◌<◌, ◌≤◌, List, [], ◌∷◌, ◌++◌, length, take, drop, Option, Result, Ok, Err, IfOk, IfErr, refl, sym, subst, ap, ap₂, ◌∙◌, arith, inl, inr}
 use Rattle.std.proofs.Math.Nat.{suc-mul}
 use Rattle.std.specs.Prelude.{codes}
 use Rattle.std.specs.List.{flat_map}
@@ -16,7 +16,7 @@ use Rattle.m2v_y4m.specs.declared.answer.EncodeFault.{EncodeFault}
 use Rattle.m2v_y4m.specs.declared.answer.EncodeFault.TheVariants.{Read, Write, ShortFrame, TooManyFrames, Memory}
 use Rattle.m2v_y4m.specs.Frames.{AreWhole, size_of}
 use Rattle.m2v_y4m.specs.Writing.{header_text, frame_text, y4m_text}
-use Rattle.m2v_y4m.specs.Answers.{most_frames, Packed, PackedBefore, PackedPart, PackStops}
+use Rattle.m2v_y4m.specs.Answers.{most_frames, Packed, PackedBefore, PackedPart, PackStops, PackEnds}
 use Rattle.m2v_y4m.proofs.LineLaws.{take_all}
 use Rattle.m2v_y4m.specs.Packing.{SoFar, FramePacked, FrameCut, FrameStops, ReadStops}
 
@@ -125,12 +125,12 @@ module _ {S K : Type 0} (left : S → Option (List ℕ)) (input_faults : S → �
   stopped h number i0 i1 i2 o0 o1 o2 Write some small reads puts before s = (rose_since puts s.0, cut_here h number i0 i1 i2 o0 o1 o2 some small before s.1)
   stopped h number i0 i1 i2 o0 o1 o2 (ShortFrame extra) some small reads puts before s = record {
     frames = before.frames;
-    part = s.part;
-    before = before_here h number s.part i0 i1 i2 o0 o1 o2 (omega arith) before s.moved s.same;
+    part = s.moved.part;
+    before = before_here h number s.moved.part i0 i1 i2 o0 o1 o2 (omega arith) before s.moved.moved s.same;
     fewer = omega (arith, before.count);
     count = s.count;
     some = s.some;
-    less = s.less;
+    less = omega (arith, s.count, s.moved.fewer);
     end = s.end;
   }
   stopped h number i0 i1 i2 o0 o1 o2 TooManyFrames some small reads puts before s = absurd s
@@ -209,3 +209,12 @@ frame_cut n size left held text line room all moved grown = record {
 
     is : text ≡ frame_text (drop 6 text)
     is = sym (take-append-drop 6 text) ∙ ap (λ l. l ++ drop 6 text) line
+
+-- where packing ended, by its answer
+pub packed_there : (h : Y4mHeader) (left held : Change) (r : Result PackSummary EncodeFault) → PackEnds h left held r → IfOk r (Packed h left held)
+packed_there h left held (Ok summary) ends = ends
+packed_there h left held (Err e) ends = tt
+
+pub stopped_there : (h : Y4mHeader) (left held : Change) (r : Result PackSummary EncodeFault) → PackEnds h left held r → IfErr r (PackStops h left held)
+stopped_there h left held (Ok summary) ends = tt
+stopped_there h left held (Err e) ends = ends

@@ -84,6 +84,11 @@ PackStops h left held (ShortFrame extra) = PackEndedShort h left held extra
 PackStops h left held TooManyFrames = PackWentOn h left held
 PackStops h left held Memory = PackedPart h left held
 
+-- What stands where packing ended, with success or without.
+abbrev pub PackEnds : Y4mHeader → Change → Change → Result PackSummary EncodeFault → Type 0
+PackEnds h left held (Ok summary) = Packed h left held summary
+PackEnds h left held (Err e) = PackStops h left held e
+
 -- ---- unpack
 
 -- A text of this header gives these raw bytes first.

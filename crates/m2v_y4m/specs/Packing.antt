@@ -44,11 +44,9 @@ pub record NoFrame (left held : Change) : Type 0 where
 
 -- the input ended inside the next frame
 pub record FrameShort (size : ℕ) (left held : Change) (extra : ℕ) : Type 0 where
-  pub part : List ℕ
-  pub moved : Moves left.old part left.new
-  pub count : length part ≡ extra
+  pub moved : MovesFewer left.old size left.new
+  pub count : length moved.part ≡ extra
   pub some : 0 < extra
-  pub less : extra < size
   pub end : IsAtEnd left.new
   pub same : held.new ≡ held.old
 

@@ -4,7 +4,7 @@ ghost use Rattle.m2v_port.specs.Port.{Moves, IsAtEnd};
 ghost use Rattle.m2v_y4m.specs.Frames.{size_of};
 ghost use Rattle.m2v_y4m.specs.Writing.{header_text, scan_text};
 ghost use Rattle.m2v_y4m.specs.Rules.{IsHeader};
-ghost use Rattle.m2v_y4m.specs.Answers.{Packed, PackStops};
+ghost use Rattle.m2v_y4m.specs.Answers.{Packed, PackStops, PackEnds};
 ghost use Rattle.m2v_y4m.specs.Packing.{IsRoom, FramePacked, NoFrame, FrameStops, ReadStops};
 
 use crate::answer::{EncodeFault, PackSummary};
@@ -63,12 +63,8 @@ fn pack_all<S: Source, K: Sink>(
     requires line { line.now ≡ header_text header.now }
     requires text { IsRoom header.now text.old }
     requires output { IsTrue (K.ready output.old) }
-    ensures ok { IfOk result (Packed header.now
-        (change S.left S.faults input.old input.new)
-        (change K.held K.faults output.old output.new)) }
-    ensures err { IfErr result (PackStops header.now
-        (change S.left S.faults input.old input.new)
-        (change K.held K.faults output.old output.new)) }
+    ensures ends { PackEnds header.now (change S.left S.faults input.old input.new)
+        (change K.held K.faults output.old output.new) result }
     ensures output { SinkStays K.ready K.name K.faults output.old output.new }
     ensures input { S.faults input.old ≤ S.faults input.new }
 {

@@ -18,12 +18,11 @@ unfolding FrameStops
 returns-then-read-size-clause-err g c =
     let text = c.read_behind_line.new.text in
     let less : c.in_ok-read.read < size_of c.args.header.now = omega (arith, c.frame_size-size.ensures.value) in
+    let count = length-take-le c.in_ok-read.read (drop 6 text) (omega (arith, length-drop 6 text, c.requires.text.room, c.read_behind_line.ensures.same, less)) in
     record {
-      part = take c.in_ok-read.read (drop 6 text);
-      moved = c.in_ok-read.ensures.moved;
-      count = length-take-le c.in_ok-read.read (drop 6 text) (omega (arith, length-drop 6 text, c.requires.text.room, c.read_behind_line.ensures.same, less));
+      moved = record { part = take c.in_ok-read.read (drop 6 text); fewer = omega (arith, count, less); moved = c.in_ok-read.ensures.moved };
+      count = count;
       some = omega arith;
-      less = less;
       end = c.in_ok-read.ensures.end (omega (arith, less, c.requires.text.room));
       same = refl;
     }
