@@ -175,10 +175,12 @@ pub record HasBits (b : Book) (first : ℕ) (rest : List ℕ) (n : ℕ) (c : Cac
 
 next_bits : (b : Book) (j first : ℕ) (rest : List ℕ) (n : ℕ) (c : Cached) → part_of_job b j ≡ 0 → IsSliceJob b (get_or rest n 0)
     → learned_so_far b j (first ∷ rest) (suc (suc n)) c
-    ≡ (let d = learned_so_far b j (first ∷ rest) (suc n) c in record d { learned = record d.learned {
-      bits = min (d.bits + length (slice_in b (get_or rest n 0)).text) (2 ^ 64 - 1);
-      work = min (d.work + (slice_in b (get_or rest n 0)).work) (2 ^ 64 - 1);
-    } })
+    ≡ (let d = learned_so_far b j (first ∷ rest) (suc n) c in record d {
+      learned = record d.learned {
+        bits = min (d.bits + length (slice_in b (get_or rest n 0)).text) (2 ^ 64 - 1);
+        work = min (d.work + (slice_in b (get_or rest n 0)).work) (2 ^ 64 - 1);
+      };
+    })
 next_bits b j first rest n c is need =
     let x = slice_in b (get_or rest n 0) in
     next_slice b j first rest n c need ∙ learn_bits b j n x.row (length x.text) x.work (learned_so_far b j (first ∷ rest) (suc n) c) is

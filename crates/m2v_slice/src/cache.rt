@@ -93,10 +93,12 @@ impl EncodeCache {
 
     /// Counts the bits and the work of a slice more.
     pub(crate) fn add_slice(&mut self, bits: u64, work: u64)
-        ensures value { self.new ≡ record self.old { learned = record self.old.learned {
-          bits = min (self.old.bits + bits) (2 ^ 64 - 1);
-          work = min (self.old.work + work) (2 ^ 64 - 1);
-        } } }
+        ensures value { self.new ≡ record self.old {
+          learned = record self.old.learned {
+            bits = min (self.old.bits + bits) (2 ^ 64 - 1);
+            work = min (self.old.work + work) (2 ^ 64 - 1);
+          };
+        } }
     {
         self.learned.bits = self.learned.bits.saturating_add(bits);
         self.learned.work = self.learned.work.saturating_add(work);
