@@ -17,7 +17,7 @@ IsTold steps g = (f : Fault) → g.fault ≡ Some f → BeginsWith steps g f
 both_told : (steps : Steps) (g h : Gap) → IsTold steps g → IsTold steps (both_gaps g h)
 both_told steps g h t f e =
     let b = t f e in
-    record { before = b.before; span = b.span; among = b.among; not_behind = b.not_behind; not_begun = b.not_begun; place = b.place; fault = b.fault }
+    record { left = b.left; place = b.place; fault = b.fault }
 
 two_told : (steps : Steps) (g h : Gap) (j : Bool) → IsTold steps g → IsTold steps h → GapsLeft steps (if j then both_gaps g h ∷ [] else g ∷ h ∷ [])
 two_told steps g h true a b = (both_told steps g h a, tt)
@@ -40,11 +40,7 @@ leading_told steps gs frames s false t = more_told steps gs (leading_gap frames 
 
 gap_told : (steps : Steps) (m : Mending) (s : Span) → Among (m, s) steps → goes_behind m s ≡ false → begins_strand m.first s ≡ false → IsTold steps (span_gap m s)
 gap_told steps m s among behind begun f e = record {
-  before = m;
-  span = s;
-  among = among;
-  not_behind = behind;
-  not_begun = begun;
+  left = record { before = m; span = s; among = among; not_behind = behind; not_begun = begun };
   place = refl;
   fault = same_Some f (fault_of m.strand (low_of_span m s) m.first s) (sym e);
 }

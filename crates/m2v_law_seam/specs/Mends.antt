@@ -95,14 +95,18 @@ abbrev pub Among : Mending × Span → Steps → Type 0
 Among x [] = ⊥
 Among x (y ∷ ys) = (x ≡ y) ⊎ Among x ys
 
--- a gap begins with a span that neither reads behind the strand that was under way nor begins another one; its fault is the
--- one that is told
-pub record BeginsWith (steps : Steps) (g : Gap) (f : Fault) : Type 0 where
+-- a span that neither reads behind the strand that was under way nor begins another one
+pub record LeftSpan (steps : Steps) : Type 0 where
   pub before : Mending
   pub span : Span
   pub among : Among (before, span) steps
   pub not_behind : goes_behind before span ≡ false
   pub not_begun : begins_strand before.first span ≡ false
+
+-- a gap begins with such a span, whose fault is the one that is told
+pub record BeginsWith (steps : Steps) (g : Gap) (f : Fault) : Type 0 where
+  pub left : LeftSpan steps
+  pub open left use *
   pub place : g.from ≡ span.place
   pub fault : f ≡ fault_of before.strand (low_of_span before span) before.first span
 

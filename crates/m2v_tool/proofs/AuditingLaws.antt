@@ -10,7 +10,7 @@ use Rattle.m2v_audit.specs.declared.asked.Asked.{Asked}
 use Rattle.m2v_tool.specs.declared.audit.AuditOutcome.{AuditOutcome}
 use Rattle.m2v_tool.specs.declared.audit.AuditOutcome.TheVariants.{Reported, Stopped}
 use Rattle.m2v_tool.specs.Endings.{Ending, Told}
-use Rattle.m2v_tool.specs.Decoding.{decoding_stopped}
+use Rattle.m2v_tool.specs.Stops.{decoding_stopped}
 use Rattle.m2v_tool.specs.Auditing.{outcome_of, AuditComes, clean_ending, reported_ending, audit_ending, AuditAnswer, AuditKeeps}
 use Rattle.m2v_tool.specs.Runs.{Run, work_of, IsUntouched, Yields, NoneFailed, Succeeds}
 use Rattle.m2v_tool.proofs.EndingLaws.{read_told, write_told, want_told, well_answered}

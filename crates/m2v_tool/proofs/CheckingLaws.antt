@@ -23,7 +23,7 @@ use Rattle.m2v_make.proofs.m2v_check.AnswerLaws.{answered}
 use Rattle.m2v_tool.specs.declared.check.CheckOutcome.{CheckOutcome}
 use Rattle.m2v_tool.specs.declared.check.CheckOutcome.TheVariants.{Judged, Stopped}
 use Rattle.m2v_tool.specs.Endings.{Ending, Told, whole, cut, stream_fault, ending_past}
-use Rattle.m2v_tool.specs.Decoding.{decoding_stopped}
+use Rattle.m2v_tool.specs.Stops.{decoding_stopped}
 use Rattle.m2v_tool.specs.Checking.{CheckComes, lawful_ending, variable_ending, verdict_ending, check_ending, Says, CheckKeeps}
 use Rattle.m2v_tool.specs.Runs.{Run, Yields, NoneFailed, Succeeds}
 use Rattle.m2v_tool.proofs.EndingLaws.{read_told, want_told, well_answered}

@@ -13,7 +13,8 @@ use Rattle.m2v_tool.specs.declared.cut.CutWords.{CutWords}
 use Rattle.m2v_tool.specs.declared.cut.CutOutcome.{CutOutcome}
 use Rattle.m2v_tool.specs.declared.cut.CutOutcome.TheVariants.{Done, NoneAsked, Stopped}
 use Rattle.m2v_tool.specs.Endings.{Told, whole, cut, unfit_ending}
-use Rattle.m2v_tool.specs.Cutting.{CutComes, none_asked, cutting_stopped, cut_out_ending, cut_ending, CutAnswer, CutKeeps}
+use Rattle.m2v_tool.specs.Stops.{cutting_stopped}
+use Rattle.m2v_tool.specs.Cutting.{CutComes, none_asked, cut_out_ending, cut_ending, CutAnswer, CutKeeps}
 use Rattle.m2v_tool.specs.Runs.{Run, work_of, IsUntouched, Yields, RefusedBy, NoneFailed, Succeeds}
 use Rattle.m2v_tool.proofs.EndingLaws.{refusal, read_told, write_told, want_told, well_answered}
 use Rattle.m2v_tool.proofs.DoneLaws.{cut_done, no_success}

@@ -17,7 +17,8 @@ use Rattle.m2v_cut.proofs.m2v_decode.AnswerLaws.{not_long, not_large, of_text, s
 use Rattle.m2v_tool.specs.declared.decode.DecodeOutcome.{DecodeOutcome}
 use Rattle.m2v_tool.specs.declared.decode.DecodeOutcome.TheVariants.{Shown, Unfit as NotFit, Stopped}
 use Rattle.m2v_tool.specs.Endings.{Told, whole, cut, line_of, unfit_ending, stream_fault, ending_past}
-use Rattle.m2v_tool.specs.Decoding.{WorkersPass, WorkersFail, DecodeComes, decoding_stopped, shown_ending, decode_ending, Past, Showed, Refused, StreamKeeps, DecodeKeeps}
+use Rattle.m2v_tool.specs.Stops.{decoding_stopped}
+use Rattle.m2v_tool.specs.Decoding.{WorkersPass, WorkersFail, DecodeComes, shown_ending, decode_ending, Past, Showed, Refused, StreamKeeps, DecodeKeeps}
 use Rattle.m2v_tool.specs.Runs.{Run, work_of, IsUntouched, Yields, RefusedBy, NoneFailed, Succeeds}
 use Rattle.m2v_tool.proofs.EndingLaws.{refusal, or_memory, read_told, write_told, want_told, well_answered}
 use Rattle.m2v_tool.proofs.DoneLaws.{decode_done, no_success}

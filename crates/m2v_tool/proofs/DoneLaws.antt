@@ -64,18 +64,19 @@ use Rattle.m2v_tool.specs.declared.unpack.UnpackOutcome.TheVariants as unpacks
 use Rattle.m2v_tool.specs.declared.encode_y4m.Y4mOutcome.{Y4mOutcome}
 use Rattle.m2v_tool.specs.declared.encode_y4m.Y4mOutcome.TheVariants as texts
 use Rattle.m2v_model.specs.Pieces.{too_long, too_large}
-use Rattle.m2v_tool.specs.Endings.{Ending, Success, line_of, Told, whole, cut, unfit_ending, unopened_ending, ending_past, stream_fault}
+use Rattle.m2v_tool.specs.Endings.{Ending, Success, line_of, Told, whole, cut, unfit_ending, unopened_ending, ending_past, stream_fault, y4m_fault}
+use Rattle.m2v_tool.specs.Stops.{coding_stopped, cutting_stopped, decoding_stopped, encoding_stopped, making_stopped, mending_stopped, packing_stopped, unpacking_stopped, unread_ending}
 use Rattle.m2v_tool.specs.EncodeWords.{Meant}
-use Rattle.m2v_tool.specs.Coding.{FlatDone, FlatComes, coding_stopped, flat_ending, flat_coded_ending}
-use Rattle.m2v_tool.specs.Encoding.{EncodeDone, EncodeComes, encoding_stopped, encoded_ending, encode_ending}
-use Rattle.m2v_tool.specs.Decoding.{DecodeDone, DecodeComes, decoding_stopped, shown_ending, decode_ending}
+use Rattle.m2v_tool.specs.Coding.{FlatDone, FlatComes, flat_ending, flat_coded_ending}
+use Rattle.m2v_tool.specs.Encoding.{EncodeDone, EncodeComes, encoded_ending, encode_ending}
+use Rattle.m2v_tool.specs.Decoding.{DecodeDone, DecodeComes, shown_ending, decode_ending}
 use Rattle.m2v_tool.specs.Checking.{CheckComes, HasPassed, lawful_ending, variable_ending, account_ending, verdict_ending, check_ending}
 use Rattle.m2v_tool.specs.Auditing.{AuditDone, AuditComes, clean_ending, found_ending, whole_ending, limit_ending, audited_ending, audit_ending}
-use Rattle.m2v_tool.specs.Mending.{MendRead, MendComes, MendDone, told_ending, mended_ending, mending_stopped, mend_ending}
-use Rattle.m2v_tool.specs.Making.{MakeComes, made_ending, making_stopped, make_ending}
-use Rattle.m2v_tool.specs.Cutting.{CutDone, CutComes, none_asked, cutting_stopped, cut_out_ending, cut_ending}
-use Rattle.m2v_tool.specs.Packing.{PackDone, PackComes, UnpackComes, y4m_fault, packed_ending, packing_stopped, unpacking_stopped, pack_ending, unpack_ending}
-use Rattle.m2v_tool.specs.Y4mCoding.{TextDone, Y4mComes, unread_ending, y4m_ending}
+use Rattle.m2v_tool.specs.Mending.{MendRead, MendComes, MendDone, told_ending, mended_ending, mend_ending}
+use Rattle.m2v_tool.specs.Making.{MakeComes, made_ending, make_ending}
+use Rattle.m2v_tool.specs.Cutting.{CutDone, CutComes, none_asked, cut_out_ending, cut_ending}
+use Rattle.m2v_tool.specs.Packing.{PackDone, PackComes, UnpackComes, packed_ending, pack_ending, unpack_ending}
+use Rattle.m2v_tool.specs.Y4mCoding.{TextDone, Y4mComes, y4m_ending}
 use Rattle.m2v_tool.specs.Runs.{Run, work_of, NoneFailed, Succeeds}
 
 -- ---- what was told with status 0

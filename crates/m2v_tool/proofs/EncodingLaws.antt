@@ -21,10 +21,11 @@ use Rattle.m2v_make.proofs.m2v_encode.Alike.{TellAlike, coded_alike, stops_alike
 use Rattle.m2v_tool.specs.declared.encode.EncodeOutcome.{EncodeOutcome}
 use Rattle.m2v_tool.specs.declared.encode.EncodeOutcome.TheVariants.{Coded, Unfit as NotFit, Unopened, Stopped}
 use Rattle.m2v_tool.specs.Endings.{Success, Told, whole, cut, unfit_ending, unopened_ending}
+use Rattle.m2v_tool.specs.Stops.{encoding_stopped}
 use Rattle.m2v_tool.specs.EncodeWords.{Meant}
 use Rattle.m2v_tool.specs.Inputs.{AreFrames, EndInside}
 use Rattle.m2v_tool.specs.Places.{opened, recon_by}
-use Rattle.m2v_tool.specs.Encoding.{frame_size, EncodeDone, EncodeStopped, EncodeShut, EncodeComes, encoding_stopped, encoded_ending, encode_ending, EncodeAnswer, EncodeKeeps}
+use Rattle.m2v_tool.specs.Encoding.{frame_size, EncodeDone, EncodeStopped, EncodeShut, EncodeComes, encoded_ending, encode_ending, EncodeAnswer, EncodeKeeps}
 use Rattle.m2v_tool.specs.Runs.{Run, work_of, IsUntouched, Yields, RefusedBy, NoneFailed, Succeeds}
 use Rattle.m2v_tool.proofs.EndingLaws.{refusal, or_memory, read_told, want_told, well_answered}
 use Rattle.m2v_tool.proofs.PlaceLaws.{grown_from, prefix_from, failed_of}

@@ -7,7 +7,8 @@ use Rattle.m2v_make.specs.Making.{MakeStops}
 use Rattle.m2v_tool.specs.declared.make.MakeOutcome.{MakeOutcome}
 use Rattle.m2v_tool.specs.declared.make.MakeOutcome.TheVariants.{Done, Stopped}
 use Rattle.m2v_tool.specs.Endings.{Told, whole, cut}
-use Rattle.m2v_tool.specs.Making.{MakeComes, made_ending, making_stopped, make_ending, MakeAnswer, MakeKeeps}
+use Rattle.m2v_tool.specs.Stops.{making_stopped}
+use Rattle.m2v_tool.specs.Making.{MakeComes, made_ending, make_ending, MakeAnswer, MakeKeeps}
 use Rattle.m2v_tool.specs.Runs.{Run, Succeeds}
 use Rattle.m2v_tool.proofs.EndingLaws.{refusal}
 use Rattle.m2v_tool.proofs.DoneLaws.{make_done, no_success}

@@ -29,7 +29,8 @@ use Rattle.m2v_mend.proofs.m2v_law_seam.Numbers.{steps_answer}
 use Rattle.m2v_tool.specs.declared.mend.MendOutcome.{MendOutcome}
 use Rattle.m2v_tool.specs.declared.mend.MendOutcome.TheVariants.{Mended, Unopened, Stopped}
 use Rattle.m2v_tool.specs.Endings.{Told, Success, unopened_ending, ending_past}
-use Rattle.m2v_tool.specs.Mending.{MendShut, MendComes, told_ending, mended_ending, mending_stopped, mend_ending, MendAnswer, MendDone, MendKeeps}
+use Rattle.m2v_tool.specs.Stops.{mending_stopped}
+use Rattle.m2v_tool.specs.Mending.{MendShut, MendComes, told_ending, mended_ending, mend_ending, MendAnswer, MendDone, MendKeeps}
 use Rattle.m2v_tool.specs.Places.{opened, recon_by}
 use Rattle.m2v_tool.specs.Runs.{Run, work_of, Yields, NoneFailed, Succeeds}
 use Rattle.m2v_tool.proofs.EndingLaws.{or_memory, read_told, want_told, memory_told}

@@ -36,14 +36,15 @@ use Rattle.m2v_tool.specs.declared.encode.EncodeOutcome.{EncodeOutcome}
 use Rattle.m2v_tool.specs.declared.encode.EncodeOutcome.TheVariants.{Coded, Unfit as NotFit, Unopened, Stopped}
 use Rattle.m2v_tool.specs.declared.encode_y4m.Y4mOutcome.{Y4mOutcome}
 use Rattle.m2v_tool.specs.declared.encode_y4m.Y4mOutcome.TheVariants.{Unread, Encoded, Broken}
-use Rattle.m2v_tool.specs.Endings.{Told, whole, cut, unfit_ending, unopened_ending}
+use Rattle.m2v_tool.specs.Endings.{Told, whole, cut, unfit_ending, unopened_ending, y4m_fault}
+use Rattle.m2v_tool.specs.Stops.{encoding_stopped, unread_ending}
 use Rattle.m2v_tool.specs.EncodeWords.{Meant}
 use Rattle.m2v_tool.specs.Inputs.{AreFrames, EndInside}
 use Rattle.m2v_tool.specs.Places.{recon_by, Shut, Stands}
-use Rattle.m2v_tool.specs.Encoding.{frame_size, EncodeStopped, EncodeShut, EncodeComes, encoding_stopped, encoded_ending, encode_ending}
-use Rattle.m2v_tool.specs.Packing.{Says, y4m_fault}
+use Rattle.m2v_tool.specs.Encoding.{frame_size, EncodeStopped, EncodeShut, EncodeComes, encoded_ending, encode_ending}
+use Rattle.m2v_tool.specs.Packing.{Says}
 use Rattle.m2v_tool.specs.Y4mWords.{with_header}
-use Rattle.m2v_tool.specs.Y4mCoding.{Behind, frames_change, frames_work, BrokenOff, FramesCome, read_behind, Y4mComes, unread_ending, y4m_ending, Y4mAnswer, Y4mKeeps}
+use Rattle.m2v_tool.specs.Y4mCoding.{Behind, frames_change, frames_work, BrokenOff, FramesCome, read_behind, Y4mComes, y4m_ending, Y4mAnswer, Y4mKeeps}
 use Rattle.m2v_tool.specs.Runs.{Run, Work, Place, work_of, IsUntouched, Yields, NoneFailed, Succeeds}
 use Rattle.m2v_tool.proofs.EndingLaws.{or_memory, read_told, want_told, well_answered}
 use Rattle.m2v_tool.proofs.PlaceLaws.{failed_of}

@@ -22,7 +22,7 @@ use Rattle.m2v_tool.specs.declared.audit.AuditOutcome.{AuditOutcome}
 use Rattle.m2v_tool.specs.declared.audit.AuditOutcome.TheVariants.{Reported, Stopped}
 use Rattle.m2v_tool.specs.Simple.{simple, text_option, flag_option, taken, flag}
 use Rattle.m2v_tool.specs.Endings.{Ending, with_figures, Told, Success, stream_fault, ending_past}
-use Rattle.m2v_tool.specs.Decoding.{decoding_stopped}
+use Rattle.m2v_tool.specs.Stops.{decoding_stopped}
 use Rattle.m2v_tool.specs.Runs.{Run, Yields, NoneFailed, Succeeds}
 
 -- ---- words

@@ -16,7 +16,7 @@ use Rattle.m2v_make.specs.m2v_check.Answers.{IsJudged, IsOver, Fails}
 use Rattle.m2v_tool.specs.declared.check.CheckOutcome.{CheckOutcome}
 use Rattle.m2v_tool.specs.declared.check.CheckOutcome.TheVariants.{Judged, Stopped}
 use Rattle.m2v_tool.specs.Endings.{Ending, with_figures, Told, Success, stream_fault, ending_past}
-use Rattle.m2v_tool.specs.Decoding.{decoding_stopped}
+use Rattle.m2v_tool.specs.Stops.{decoding_stopped}
 use Rattle.m2v_tool.specs.Runs.{Run, Yields, NoneFailed, Succeeds}
 
 -- When each outcome of `check` comes: a verdict where the text has this one and no piece of it passes a limit.

@@ -26,16 +26,16 @@ use Rattle.m2v_tool.specs.Cutting.{CutKeeps}
 use Rattle.m2v_tool.specs.Y4mCoding.{Y4mKeeps}
 use Rattle.m2v_tool.specs.Packing.{PackKeeps, UnpackKeeps}
 -- what each command does and how each outcome is told
-unfoldable pub use Rattle.m2v_tool.specs.Coding.{FlatComes, coding_stopped, flat_ending}
-unfoldable pub use Rattle.m2v_tool.specs.Encoding.{EncodeComes, encoding_stopped, encode_ending}
-unfoldable pub use Rattle.m2v_tool.specs.Decoding.{DecodeComes, decoding_stopped, decode_ending}
+unfoldable pub use Rattle.m2v_tool.specs.Coding.{FlatComes, flat_ending}
+unfoldable pub use Rattle.m2v_tool.specs.Encoding.{EncodeComes, encode_ending}
+unfoldable pub use Rattle.m2v_tool.specs.Decoding.{DecodeComes, decode_ending}
 unfoldable pub use Rattle.m2v_tool.specs.Checking.{CheckComes, check_ending}
 unfoldable pub use Rattle.m2v_tool.specs.Auditing.{AuditComes, audit_ending}
-unfoldable pub use Rattle.m2v_tool.specs.Mending.{MendComes, mending_stopped, mend_ending}
-unfoldable pub use Rattle.m2v_tool.specs.Making.{MakeComes, making_stopped, make_ending}
-unfoldable pub use Rattle.m2v_tool.specs.Cutting.{CutComes, cutting_stopped, cut_ending}
-unfoldable pub use Rattle.m2v_tool.specs.Y4mCoding.{Y4mComes, unread_ending, y4m_ending}
-unfoldable pub use Rattle.m2v_tool.specs.Packing.{PackComes, packing_stopped, pack_ending, UnpackComes, unpacking_stopped, unpack_ending}
+unfoldable pub use Rattle.m2v_tool.specs.Mending.{MendComes, mend_ending}
+unfoldable pub use Rattle.m2v_tool.specs.Making.{MakeComes, make_ending}
+unfoldable pub use Rattle.m2v_tool.specs.Cutting.{CutComes, cut_ending}
+unfoldable pub use Rattle.m2v_tool.specs.Y4mCoding.{Y4mComes, y4m_ending}
+unfoldable pub use Rattle.m2v_tool.specs.Packing.{PackComes, pack_ending, UnpackComes, unpack_ending}
 
 -- When each outcome comes, and what stands then: words that mean no command are refused, and else comes what their
 -- command gives. Where memory ran out before the words were read, nothing else is looked at.

@@ -5,19 +5,19 @@ use Rattle.clap.specs.Simple.{App}
 use Rattle.m2v_port.specs.Ends.{Change, Tells}
 use Rattle.m2v_port.specs.Port.{Grows}
 use Rattle.m2v_set.specs.declared.unfit.Unfit.{Unfit}
-use Rattle.m2v_model.specs.Pieces.{too_long, too_large}
 use Rattle.m2v_cut.specs.m2v_decode.Answers.{OfText}
 use Rattle.m2v_cut.specs.m2v_law_group.Groups.{cut_text}
 use Rattle.m2v_cut.specs.m2v_law_group.Chosen.{CutDecodes}
 use Rattle.m2v_cut.specs.declared.answer.CutSummary.{CutSummary}
 use Rattle.m2v_cut.specs.declared.answer.CutError.{CutError}
-use Rattle.m2v_cut.specs.declared.answer.CutError.TheVariants as errors
 use Rattle.m2v_cut.specs.Answers.{IsCutOut, Fails, answer_to}
 use Rattle.m2v_tool.specs.declared.cut.CutWords.{CutWords}
 use Rattle.m2v_tool.specs.declared.cut.CutOutcome.{CutOutcome}
 use Rattle.m2v_tool.specs.declared.cut.CutOutcome.TheVariants.{Done, NoneAsked, Stopped}
 use Rattle.m2v_tool.specs.Simple.{simple, number_word, required, taken}
-use Rattle.m2v_tool.specs.Endings.{Ending, with_figures, Told, Success, line_of, numbered, read_fault, write_fault, no_memory, unfit_ending, ending_past}
+use Rattle.m2v_tool.specs.Endings.{Ending, with_figures, Told, Success, line_of, unfit_ending}
+use Rattle.m2v_tool.specs.Stops.{cutting_stopped}
+pub use Rattle.m2v_tool.specs.Stops.{no_group, not_cuttable}
 use Rattle.m2v_tool.specs.Runs.{Run, Yields, RefusedBy, NoneFailed, Succeeds}
 
 -- ---- words
@@ -48,23 +48,6 @@ CutComes w left held NoneAsked = (w.count ≡ 0) × left.Unchanged × held.Uncha
 CutComes w left held (Stopped e) = (1 ≤ w.count) × Fails w.from w.count left held e
 
 -- ---- statuses and lines
-
--- of a stream that has too few groups, and of a group that needs what stands before it
-abbrev pub no_group : ℕ → ℕ → Ending
-no_group have need = with_figures 16 ((codes "no group have ", have) ∷ (codes " need ", need) ∷ [])
-
-abbrev pub not_cuttable : ℕ → Ending
-not_cuttable place = numbered 17 (codes "not cuttable at bit ") place
-
--- of a cut that wasn't made to its end
-unfoldable pub cutting_stopped : CutError → Ending
-cutting_stopped errors.Read = read_fault
-cutting_stopped errors.Write = write_fault
-cutting_stopped (errors.NoGroup have need) = no_group have need
-cutting_stopped (errors.NotCuttable place) = not_cuttable place
-cutting_stopped errors.TooLong = ending_past too_long
-cutting_stopped errors.PictureTooLarge = ending_past too_large
-cutting_stopped errors.Memory = no_memory
 
 -- of a cut with these numbers
 unfoldable pub cut_out_ending : CutSummary → Ending

@@ -8,18 +8,17 @@ use Rattle.m2v_port.specs.Port.{Grows}
 use Rattle.m2v_plane.specs.Raw.{raw}
 use Rattle.m2v_set.specs.declared.unfit.Unfit.{Unfit}
 use Rattle.m2v_set.specs.Rules.{Condition, at_least, at_most, judged}
-use Rattle.m2v_model.specs.Pieces.{pieces, Limit, too_long, too_large}
+use Rattle.m2v_model.specs.Pieces.{pieces, Limit, too_long}
 use Rattle.m2v_model.specs.Decoding.{Decodes, FaultAt}
 use Rattle.m2v_dec_piece.specs.declared.answer.Fault.{Fault}
-use Rattle.m2v_dec_piece.specs.declared.answer.DecodeError.{DecodeError}
-use Rattle.m2v_dec_piece.specs.declared.answer.DecodeError.TheVariants as errors
 use Rattle.m2v_cut.specs.m2v_decode.declared.answer.Decoded.{Decoded}
 use Rattle.m2v_cut.specs.m2v_decode.Answers.{OfText, IsDecoded, IsFaulty, IsOver, Fails, AllFit, start_of}
 use Rattle.m2v_cut.specs.m2v_decode.Complete.{IsUnderLimits, IsLate, IsPast, counted, error_of}
 use Rattle.m2v_tool.specs.declared.decode.DecodeOutcome.{DecodeOutcome}
 use Rattle.m2v_tool.specs.declared.decode.DecodeOutcome.TheVariants.{Shown, Unfit as NotFit, Stopped}
 use Rattle.m2v_tool.specs.Simple.{simple, number_option, number_or, taken}
-use Rattle.m2v_tool.specs.Endings.{Ending, with_figures, Told, Success, line_of, read_fault, write_fault, no_memory, unfit_ending, stream_fault, ending_past}
+use Rattle.m2v_tool.specs.Endings.{Ending, with_figures, Told, Success, line_of, unfit_ending, stream_fault, ending_past}
+use Rattle.m2v_tool.specs.Stops.{decoding_stopped}
 use Rattle.m2v_tool.specs.Runs.{Run, Yields, RefusedBy, NoneFailed, Succeeds}
 
 -- ---- words
@@ -58,15 +57,6 @@ DecodeComes workers left held (NotFit u) =
 DecodeComes workers left held (Stopped e) = WorkersPass workers × Fails left held e
 
 -- ---- statuses and lines
-
--- the ending of a stream that wasn't decoded to its end
-unfoldable pub decoding_stopped : DecodeError → Ending
-decoding_stopped errors.Read = read_fault
-decoding_stopped errors.Write = write_fault
-decoding_stopped (errors.Stream f) = stream_fault f
-decoding_stopped errors.TooLong = ending_past too_long
-decoding_stopped errors.PictureTooLarge = ending_past too_large
-decoding_stopped errors.Memory = no_memory
 
 -- the ending of a stream with these numbers, and that of each outcome
 unfoldable pub shown_ending : Decoded → Ending

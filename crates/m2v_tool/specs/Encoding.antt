@@ -7,11 +7,11 @@ use Rattle.m2v_set.specs.Numbers.{dims_of}
 use Rattle.m2v_set.specs.Rules.{Passes, FirstUnfit}
 use Rattle.m2v_make.specs.m2v_encode.declared.answer.Summary.{Summary}
 use Rattle.m2v_make.specs.m2v_encode.declared.answer.EncodeError.{EncodeError}
-use Rattle.m2v_make.specs.m2v_encode.declared.answer.EncodeError.TheVariants as errors
 use Rattle.m2v_make.specs.m2v_encode.Answers.{AllCoded, Stops, most_frames}
 use Rattle.m2v_tool.specs.declared.encode.EncodeOutcome.{EncodeOutcome}
 use Rattle.m2v_tool.specs.declared.encode.EncodeOutcome.TheVariants.{Coded, Unfit as NotFit, Unopened, Stopped}
-use Rattle.m2v_tool.specs.Endings.{Ending, Success, coded_ending, read_fault, write_fault, no_memory, unopened_ending, unfit_ending, short_frame, no_frames, too_many_frames}
+use Rattle.m2v_tool.specs.Endings.{Ending, Success, coded_ending, unopened_ending, unfit_ending}
+use Rattle.m2v_tool.specs.Stops.{encoding_stopped}
 use Rattle.m2v_tool.specs.EncodeWords.{Meant}
 use Rattle.m2v_tool.specs.Runs.{Run, Work, work_of, Yields, RefusedBy, NoneFailed, Succeeds}
 use Rattle.m2v_tool.specs.Places.{recon_by, Stands, Shut}
@@ -47,15 +47,6 @@ EncodeComes m k (Unopened e) = EncodeShut m k e
 EncodeComes m k (Stopped e) = EncodeStopped m k e
 
 -- ---- statuses and lines
-
--- of raw frames that weren't coded to their end
-unfoldable pub encoding_stopped : EncodeError → Ending
-encoding_stopped errors.Read = read_fault
-encoding_stopped errors.Write = write_fault
-encoding_stopped (errors.ShortFrame extra) = short_frame extra
-encoding_stopped errors.NoFrames = no_frames
-encoding_stopped errors.TooManyFrames = too_many_frames
-encoding_stopped errors.Memory = no_memory
 
 -- of a stream with these numbers
 unfoldable pub encoded_ending : Summary → Ending

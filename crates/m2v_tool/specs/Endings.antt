@@ -4,6 +4,9 @@ use Rattle.m2v_port.specs.Ends.{Change}
 use Rattle.m2v_port.specs.Port.{Grows, GrowsByPrefix}
 use Rattle.m2v_port.specs.declared.error.PortError.{PortError}
 use Rattle.m2v_port.specs.declared.error.PortError.TheVariants as calls
+use Rattle.m2v_y4m.specs.declared.answer.Y4mFault.{Y4mFault}
+use Rattle.m2v_y4m.specs.declared.answer.Y4mKind.{Y4mKind}
+use Rattle.m2v_y4m.specs.declared.answer.Y4mKind.TheVariants as kinds
 use Rattle.m2v_set.specs.declared.unfit.Unfit.{Unfit}
 use Rattle.m2v_model.specs.Pieces.{Limit, too_long, too_large}
 use Rattle.m2v_dec_piece.specs.declared.answer.Fault.{Fault}
@@ -112,3 +115,18 @@ ending_past too_large = plain 14 (codes "picture too large")
 -- of a stream with this first fault
 unfoldable pub stream_fault : Fault → Ending
 stream_fault f = numbered 9 ((codes "stream " ++ fault_word f.kind) ++ codes " at bit ") f.place
+
+-- the name of a kind of fault of a YUV4MPEG2 text
+unfoldable pub kind_name : Y4mKind → List ℕ
+kind_name kinds.Magic = codes "Magic"
+kind_name kinds.Line = codes "Line"
+kind_name kinds.Field = codes "Field"
+kind_name kinds.Size = codes "Size"
+kind_name kinds.Rate = codes "Rate"
+kind_name kinds.Interlace = codes "Interlace"
+kind_name kinds.Chroma = codes "Chroma"
+kind_name kinds.Frame = codes "Frame"
+
+-- of a YUV4MPEG2 text with this first fault
+unfoldable pub y4m_fault : Y4mFault → Ending
+y4m_fault f = numbered 15 ((codes "y4m fault " ++ kind_name f.kind) ++ codes " at byte ") f.place

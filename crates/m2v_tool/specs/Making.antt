@@ -6,13 +6,12 @@ use Rattle.clap.specs.declared.builder.value_parser.ValueParser.{ValueParser}
 use Rattle.clap.specs.declared.builder.value_parser.ValueParser.TheVariants as parsers
 use Rattle.m2v_port.specs.Ends.{Change}
 use Rattle.m2v_make.specs.declared.answer.Made.{Made}
-use Rattle.m2v_make.specs.declared.answer.MakeError.{MakeError}
-use Rattle.m2v_make.specs.declared.answer.MakeError.TheVariants as errors
 use Rattle.m2v_make.specs.Making.{Makes, MakeStops}
 use Rattle.m2v_tool.specs.declared.make.MakeOutcome.{MakeOutcome}
 use Rattle.m2v_tool.specs.declared.make.MakeOutcome.TheVariants.{Done, Stopped}
 use Rattle.m2v_tool.specs.Simple.{simple, taken, unsigned}
-use Rattle.m2v_tool.specs.Endings.{Ending, with_figures, Success, write_fault, no_memory}
+use Rattle.m2v_tool.specs.Endings.{Ending, with_figures, Success}
+use Rattle.m2v_tool.specs.Stops.{making_stopped}
 use Rattle.m2v_tool.specs.Runs.{Run, Succeeds}
 
 -- ---- words
@@ -51,11 +50,6 @@ made_ending seed m = with_figures 0
     ((codes "make seed ", seed) ∷ (codes " frames 48 bytes ", m.bytes)
     ∷ (codes " stuffing ", m.stuffing) ∷ (codes " low ", m.low) ∷ (codes " high ", m.high)
     ∷ (codes " delays ", m.delays) ∷ [])
-
--- of a stream that wasn't made
-unfoldable pub making_stopped : MakeError → Ending
-making_stopped errors.Write = write_fault
-making_stopped errors.Memory = no_memory
 
 -- of each outcome
 unfoldable pub make_ending : MakeOutcome → Ending

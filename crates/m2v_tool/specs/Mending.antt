@@ -6,12 +6,11 @@ use Rattle.clap.specs.Simple.{App}
 use Rattle.m2v_port.specs.Ends.{Tells}
 use Rattle.m2v_port.specs.Port.{Grows, GrowsByPrefix}
 use Rattle.m2v_port.specs.declared.error.PortError.{PortError}
-use Rattle.m2v_model.specs.Pieces.{Limit, too_long, too_large}
+use Rattle.m2v_model.specs.Pieces.{Limit}
 use Rattle.m2v_cut.specs.m2v_decode.Answers.{OfText}
 use Rattle.m2v_cut.specs.m2v_decode.FaultWords.{fault_word}
 use Rattle.m2v_mend.specs.declared.answer.Answer.{Answer}
 use Rattle.m2v_mend.specs.declared.answer.MendError.{MendError}
-use Rattle.m2v_mend.specs.declared.answer.MendError.TheVariants as errors
 use Rattle.m2v_mend.specs.Answers.{mend_limit, answer_told, mended_bytes, IsMended, Fails}
 use Rattle.m2v_mend.specs.Listing.{list_of}
 use Rattle.m2v_mend.specs.m2v_law_seam.Spans.{steps}
@@ -22,7 +21,8 @@ use Rattle.m2v_tool.specs.declared.mend.MendWords.{MendWords}
 use Rattle.m2v_tool.specs.declared.mend.MendOutcome.{MendOutcome}
 use Rattle.m2v_tool.specs.declared.mend.MendOutcome.TheVariants.{Mended, Unopened, Stopped}
 use Rattle.m2v_tool.specs.Simple.{simple, text_option, taken}
-use Rattle.m2v_tool.specs.Endings.{Ending, with_figures, Told, Success, numbered, read_fault, write_fault, no_memory, unopened_ending, ending_past}
+use Rattle.m2v_tool.specs.Endings.{Ending, with_figures, Told, Success, numbered, unopened_ending, ending_past}
+use Rattle.m2v_tool.specs.Stops.{mending_stopped}
 use Rattle.m2v_tool.specs.Runs.{Run, Work, work_of, Yields, NoneFailed, Succeeds}
 use Rattle.m2v_tool.specs.Places.{recon_by, Stands, Shut}
 
@@ -77,14 +77,6 @@ told_ending (none_kept fault) =
 
 abbrev pub mended_ending : Answer → Ending
 mended_ending a = told_ending (answer_told a)
-
--- of an input that wasn't mended to its end
-unfoldable pub mending_stopped : MendError → Ending
-mending_stopped errors.Read = read_fault
-mending_stopped errors.Write = write_fault
-mending_stopped errors.TooLong = ending_past too_long
-mending_stopped errors.PictureTooLarge = ending_past too_large
-mending_stopped errors.Memory = no_memory
 
 -- of each outcome
 unfoldable pub mend_ending : MendOutcome → Ending

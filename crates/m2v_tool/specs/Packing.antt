@@ -8,13 +8,7 @@ use Rattle.m2v_plane.specs.Raw.{raw}
 use Rattle.m2v_set.specs.Rules.{judged}
 use Rattle.m2v_y4m.specs.declared.header.Y4mHeader.{Y4mHeader}
 use Rattle.m2v_y4m.specs.declared.answer.PackSummary.{PackSummary}
-use Rattle.m2v_y4m.specs.declared.answer.EncodeFault.{EncodeFault}
-use Rattle.m2v_y4m.specs.declared.answer.EncodeFault.TheVariants as packing
-use Rattle.m2v_y4m.specs.declared.answer.UnpackError.{UnpackError}
-use Rattle.m2v_y4m.specs.declared.answer.UnpackError.TheVariants as unpacking
 use Rattle.m2v_y4m.specs.declared.answer.Y4mFault.{Y4mFault}
-use Rattle.m2v_y4m.specs.declared.answer.Y4mKind.{Y4mKind}
-use Rattle.m2v_y4m.specs.declared.answer.Y4mKind.TheVariants as kinds
 use Rattle.m2v_y4m.specs.Rules.{header_rules, Passes}
 use Rattle.m2v_y4m.specs.Header.{opening}
 use Rattle.m2v_y4m.specs.Frames.{size_of, AreWhole, Y4m, EndsShort, Begins}
@@ -24,9 +18,12 @@ use Rattle.m2v_tool.specs.declared.pack.PackOutcome.TheVariants as packs
 use Rattle.m2v_tool.specs.declared.unpack.UnpackOutcome.{UnpackOutcome}
 use Rattle.m2v_tool.specs.declared.unpack.UnpackOutcome.TheVariants as unpacks
 use Rattle.m2v_tool.specs.Simple.{simple, number_word, flag_option, required, flag, taken}
-use Rattle.m2v_tool.specs.Endings.{Ending, with_figures, Told, Success, line_of, numbered, read_fault, write_fault, no_memory, unfit_ending, short_frame, too_many_frames}
+use Rattle.m2v_tool.specs.Endings.{Ending, with_figures, Told, Success, line_of, unfit_ending, short_frame, too_many_frames}
+use Rattle.m2v_tool.specs.Stops.{packing_stopped, unpacking_stopped}
 use Rattle.m2v_tool.specs.Inputs.{AreFew, EndInside}
-use Rattle.m2v_tool.specs.Runs.{Run, Yields, RefusedBy, NoneFailed, Succeeds}
+unfoldable pub use Rattle.m2v_tool.specs.Endings.{y4m_fault}
+use Rattle.m2v_tool.specs.Frames.{FramesAnswer, FramesKept}
+use Rattle.m2v_tool.specs.Runs.{Run, Yields, NoneFailed, Succeeds}
 
 -- ---- words
 
@@ -51,40 +48,9 @@ pack_meant words = option_map header_of (taken pack_app words)
 
 -- ---- statuses and lines
 
--- the name of a kind of fault
-unfoldable pub kind_name : Y4mKind → List ℕ
-kind_name kinds.Magic = codes "Magic"
-kind_name kinds.Line = codes "Line"
-kind_name kinds.Field = codes "Field"
-kind_name kinds.Size = codes "Size"
-kind_name kinds.Rate = codes "Rate"
-kind_name kinds.Interlace = codes "Interlace"
-kind_name kinds.Chroma = codes "Chroma"
-kind_name kinds.Frame = codes "Frame"
-
--- of a text with this first fault
-unfoldable pub y4m_fault : Y4mFault → Ending
-y4m_fault f = numbered 15 ((codes "y4m fault " ++ kind_name f.kind) ++ codes " at byte ") f.place
-
 -- of frames that were packed or unpacked
 unfoldable pub packed_ending : PackSummary → Ending
 packed_ending s = with_figures 0 ((codes "frames ", s.frames) ∷ (codes " bytes ", s.bytes) ∷ [])
-
--- of raw frames that weren't packed to their end, and of a text that wasn't unpacked to its end
-unfoldable pub packing_stopped : EncodeFault → Ending
-packing_stopped packing.Read = read_fault
-packing_stopped packing.Write = write_fault
-packing_stopped (packing.ShortFrame extra) = short_frame extra
-packing_stopped packing.TooManyFrames = too_many_frames
-packing_stopped packing.Memory = no_memory
-
-unfoldable pub unpacking_stopped : UnpackError → Ending
-unpacking_stopped unpacking.Read = read_fault
-unpacking_stopped unpacking.Write = write_fault
-unpacking_stopped (unpacking.ShortFrame extra) = short_frame extra
-unpacking_stopped unpacking.TooManyFrames = too_many_frames
-unpacking_stopped (unpacking.Y4m f) = y4m_fault f
-unpacking_stopped unpacking.Memory = no_memory
 
 -- of each outcome
 unfoldable pub pack_ending : PackOutcome → Ending
@@ -105,14 +71,11 @@ PackComes h left held (packs.Unfit u) =
     (judged (header_rules h) ≡ Err u) × left.Unchanged × held.Unchanged
 PackComes h left held (packs.Stopped e) = Passes h × PackStops h left held e
 
--- The status that `pack` gives by its words and the number of input's bytes.
-pub data PackAnswer (r : Run) (h : Y4mHeader) (bytes : ℕ) : Type 0 where
-  unfit : (Passes h → ⊥) → r.status ≡ 3 → PackAnswer r h bytes
-  ok : Passes h → AreFew (size_of h) bytes → r.status ≡ 0 → PackAnswer r h bytes
-  unreported : Passes h → AreFew (size_of h) bytes → r.report.Failed → r.status ≡ 8
-      → PackAnswer r h bytes
-  short : Passes h → EndInside (size_of h) bytes → r.status ≡ 4 → PackAnswer r h bytes
-  many : Passes h → most_frames * size_of h < bytes → r.status ≡ 6 → PackAnswer r h bytes
+-- The status that `pack` gives by its words and the number of input's bytes: no frames are frames too.
+abbrev pub PackAnswer : Run → Y4mHeader → ℕ → Type 0
+PackAnswer r h bytes =
+    FramesAnswer r (Passes h) (AreFew (size_of h) bytes) (EndInside (size_of h) bytes)
+    ⊥ (most_frames * size_of h < bytes)
 
 -- The numbers pass, and the frames of the input were packed.
 pub record PackDone (h : Y4mHeader) (left held : Change) (s : PackSummary) : Type 0 where
@@ -122,9 +85,8 @@ pub record PackDone (h : Y4mHeader) (left held : Change) (s : PackSummary) : Typ
 -- What is answered to `pack`: with status 0 the input was packed; numbers that don't pass are refused, and nothing else is looked at; the status is the one
 -- that the words and the input's bytes give; and whole frames with numbers that pass are packed.
 pub record PackKeeps (h : Y4mHeader) (r : Run) : Type 0 where
-  pub done : r.status ≡ 0 → Success (PackDone h r.input r.output) packed_ending r.report
-  pub unfit : (Passes h → ⊥) → RefusedBy 3 r
-  pub answer : Tells r.input (λ bytes. Yields r (PackAnswer r h (length bytes)))
+  pub kept : FramesKept r (Passes h) (PackDone h r.input r.output) packed_ending (PackAnswer r h)
+  pub open kept use *
   pub packed : Tells r.input (λ bytes.
       Passes h → AreFew (size_of h) (length bytes) → NoneFailed r → Succeeds r)
 

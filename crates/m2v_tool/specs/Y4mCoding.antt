@@ -7,8 +7,6 @@ use Rattle.m2v_set.specs.Rules.{Passes}
 use Rattle.m2v_make.specs.m2v_encode.declared.answer.Summary.{Summary}
 use Rattle.m2v_make.specs.m2v_encode.Answers.{FailedInside, most_frames}
 use Rattle.m2v_y4m.specs.declared.answer.Y4mFault.{Y4mFault}
-use Rattle.m2v_y4m.specs.declared.answer.Y4mError.{Y4mError}
-use Rattle.m2v_y4m.specs.declared.answer.Y4mError.TheVariants as opening_errors
 use Rattle.m2v_y4m.specs.declared.header.Y4mHeader.{Y4mHeader}
 use Rattle.m2v_y4m.specs.Rules.{IsHeader}
 use Rattle.m2v_y4m.specs.Header.{opening}
@@ -18,13 +16,14 @@ use Rattle.m2v_y4m.specs.Answers.{OpenStops}
 use Rattle.m2v_tool.specs.declared.encode.EncodeOutcome.{EncodeOutcome}
 use Rattle.m2v_tool.specs.declared.encode_y4m.Y4mOutcome.{Y4mOutcome}
 use Rattle.m2v_tool.specs.declared.encode_y4m.Y4mOutcome.TheVariants.{Unread, Encoded, Broken}
-use Rattle.m2v_tool.specs.Endings.{Ending, Told, Success, read_fault, no_memory}
+use Rattle.m2v_tool.specs.Endings.{Ending, Told, Success, y4m_fault}
+use Rattle.m2v_tool.specs.Stops.{unread_ending}
 use Rattle.m2v_tool.specs.EncodeWords.{Meant}
 use Rattle.m2v_tool.specs.Y4mWords.{with_header}
 use Rattle.m2v_tool.specs.Inputs.{AreFrames, EndInside}
 use Rattle.m2v_tool.specs.Places.{recon_by, Stands}
 use Rattle.m2v_tool.specs.Encoding.{EncodeComes, EncodeDone, encode_ending, encoded_ending, frame_size}
-use Rattle.m2v_tool.specs.Packing.{Says, y4m_fault}
+use Rattle.m2v_tool.specs.Packing.{Says}
 use Rattle.m2v_tool.specs.Runs.{Run, Work, work_of, Yields, NoneFailed, Succeeds}
 
 -- ---- what was read
@@ -115,12 +114,6 @@ read_behind left faults at before now after = record {
 }
 
 -- ---- statuses and lines
-
--- of a text whose header line wasn't read
-unfoldable pub unread_ending : Y4mError → Ending
-unread_ending opening_errors.Read = read_fault
-unread_ending (opening_errors.Y4m fault) = y4m_fault fault
-unread_ending opening_errors.Memory = no_memory
 
 -- of each outcome
 unfoldable pub y4m_ending : Y4mOutcome → Ending

@@ -23,13 +23,11 @@ use std::thread::Threads;
 
 /// Codes the raw frames of the input, where no reconstructions are wanted.
 fn encoded_alone<R: Threads + Wait + Sync, S: Source, K: Sink, N: NamedSink, G: Gate + Sync>(
-    rt: &R,
-    alloc: Global,
+    crew: &Crew<R, G>,
     passed: &Passed,
     input: &mut S,
     output: &mut K,
     _recon: &mut N,
-    gate: &G,
 ) -> EncodeOutcome
     requires { IsTrue (K.ready output.old) }
     ensures comes { EncodeComes (record { settings = passed.now; recon = None })
@@ -43,7 +41,8 @@ fn encoded_alone<R: Threads + Wait + Sync, S: Source, K: Sink, N: NamedSink, G: 
 {
     // it tells contracts that the settings pass
     let _passes = passed.settings();
-    match encode::<R, S, K, SureFile, G>(rt, alloc, passed, input, output, None, gate) {
+    let Crew { rt, alloc, gate } = crew;
+    match encode::<R, S, K, SureFile, G>(*rt, *alloc, passed, input, output, None, *gate) {
         Ok(summary) => EncodeOutcome::Coded(summary),
         Err(error) => EncodeOutcome::Stopped(error),
     }
@@ -84,13 +83,11 @@ fn encoded_beside<R: Threads + Wait + Sync, S: Source, K: Sink, N: NamedSink, G:
 
 /// Codes the raw frames of the input.
 pub(crate) fn encoded<R: Threads + Wait + Sync, S: Source, K: Sink, N: NamedSink, G: Gate + Sync>(
-    rt: &R,
-    alloc: Global,
+    crew: &Crew<R, G>,
     meant: &EncodeWords,
     input: &mut S,
     output: &mut K,
     recon: &mut N,
-    gate: &G,
 ) -> EncodeOutcome
     requires output { IsTrue (K.ready output.old) }
     requires recon { IsFalse (N.ready recon.old) }
@@ -108,12 +105,8 @@ pub(crate) fn encoded<R: Threads + Wait + Sync, S: Source, K: Sink, N: NamedSink
         Err(first) => return EncodeOutcome::Unfit(first),
     };
     match &meant.recon {
-        Some(name) => {
-            let name = name.as_str();
-            let crew = Crew { rt, alloc, gate };
-            encoded_beside(&crew, &passed, name, input, output, recon)
-        }
-        None => encoded_alone(rt, alloc, &passed, input, output, recon, gate),
+        Some(name) => encoded_beside(crew, &passed, name.as_str(), input, output, recon),
+        None => encoded_alone(crew, &passed, input, output, recon),
     }
 }
 
@@ -153,13 +146,11 @@ fn stopped_reading(outcome: &EncodeOutcome) -> bool
 
 /// Codes the frames behind the header line. A read that fails at the text's first fault ends it as that fault.
 fn coded_behind<R: Threads + Wait + Sync, S: Source, K: Sink, N: NamedSink, G: Gate + Sync>(
-    rt: &R,
-    alloc: Global,
+    crew: &Crew<R, G>,
     meant: &EncodeWords,
     source: &mut Y4mSource<S>,
     output: &mut K,
     recon: &mut N,
-    gate: &G,
 ) -> Y4mOutcome
     requires output { IsTrue (K.ready output.old) }
     requires recon { IsFalse (N.ready recon.old) }
@@ -178,7 +169,7 @@ fn coded_behind<R: Threads + Wait + Sync, S: Source, K: Sink, N: NamedSink, G: G
     ensures header { IsHeader source.new.text.at.header }
     ensures ahead { length source.new.text.at.unread ≤ most_ahead }
 {
-    let outcome = encoded(rt, alloc, meant, source, output, recon, gate);
+    let outcome = encoded(crew, meant, source, output, recon);
     // it tells contracts how much was read ahead at most
     let _header = source.header();
     if !stopped_reading(&outcome) {
@@ -197,15 +188,7 @@ pub(crate) fn encoded_text<
     K: Sink,
     N: NamedSink,
     G: Gate + Sync,
->(
-    rt: &R,
-    alloc: Global,
-    meant: EncodeWords,
-    input: &mut S,
-    output: &mut K,
-    recon: &mut N,
-    gate: &G,
-) -> Y4mOutcome
+>(crew: &Crew<R, G>, meant: EncodeWords, input: &mut S, output: &mut K, recon: &mut N) -> Y4mOutcome
     requires output { IsTrue (K.ready output.old) }
     requires recon { IsFalse (N.ready recon.old) }
     ensures comes { Y4mComes (words_of meant)
@@ -215,7 +198,7 @@ pub(crate) fn encoded_text<
     ensures output { SinkStays K.ready K.name K.faults output.old output.new }
     ensures input { S.faults input.old ≤ S.faults input.new }
 {
-    let text = match Y4mText::open(alloc, input) {
+    let text = match Y4mText::open(crew.alloc, input) {
         Ok(text) => text,
         Err(error) => return Y4mOutcome::Unread(error),
     };
@@ -224,7 +207,7 @@ pub(crate) fn encoded_text<
         text,
         inner: &mut *input,
     };
-    let outcome = coded_behind(rt, alloc, &meant, &mut source, output, recon, gate);
+    let outcome = coded_behind(crew, &meant, &mut source, output, recon);
     // taken apart here, which tells what the input is that was lent
     let Y4mSource {
         text: _text,

@@ -1,7 +1,6 @@
 ghost use Rattle.std.specs.Prelude.{◌≡◌, ◌++◌, map, IfOk};
 ghost use Rattle.m2v_model.specs.Pieces.{too_large, too_long};
-ghost use Rattle.m2v_tool.specs.Endings.{Ending, IsReport, ending_past, line_text, no_frames, no_memory, numbered, plain, read_fault, short_frame, stream_fault, too_many_frames, unopened_ending, usage, write_fault};
-ghost use Rattle.m2v_tool.specs.Packing.{kind_name, y4m_fault};
+ghost use Rattle.m2v_tool.specs.Endings.{Ending, IsReport, ending_past, kind_name, line_text, no_frames, no_memory, numbered, plain, read_fault, short_frame, stream_fault, too_many_frames, unopened_ending, usage, write_fault, y4m_fault};
 
 use itoa::Buffer;
 use m2v_cut::decode::{Fault, fault_word};
@@ -159,7 +158,7 @@ pub(crate) fn stream_fault(alloc: Global, fault: &Fault) -> Result<Report, Alloc
 }
 
 /// The name of a kind of fault.
-#[tactic(auto, unfolding(crate::specs::Packing::kind_name))]
+#[tactic(auto, unfolding(crate::specs::Endings::kind_name))]
 fn kind_name(kind: Y4mKind) -> &'static str
     ensures { result.now ≡ kind_name kind }
 {
@@ -176,7 +175,7 @@ fn kind_name(kind: Y4mKind) -> &'static str
 }
 
 /// The first fault of a YUV4MPEG2 text: its kind and its place.
-#[tactic(auto, unfolding(crate::specs::Packing::y4m_fault))]
+#[tactic(auto, unfolding(crate::specs::Endings::y4m_fault))]
 pub(crate) fn y4m_fault(alloc: Global, fault: &Y4mFault) -> Result<Report, AllocError>
     ensures { IfOk result (λ r. IsReport r (y4m_fault fault.now)) }
 {

@@ -1,8 +1,7 @@
 // What is told where a command stopped: the status and the line on report of each error.
 ghost use Rattle.std.specs.Prelude.{IfOk};
 ghost use Rattle.m2v_tool.specs.Endings.{IsReport};
-ghost use Rattle.m2v_tool.specs.Cutting.{no_group, not_cuttable};
-ghost use Rattle.m2v_tool.specs.Commands.{coding_stopped, cutting_stopped, decoding_stopped, encoding_stopped, making_stopped, mending_stopped, packing_stopped, unpacking_stopped, unread_ending};
+ghost use Rattle.m2v_tool.specs.Stops.{coding_stopped, cutting_stopped, decoding_stopped, encoding_stopped, making_stopped, mending_stopped, no_group, not_cuttable, packing_stopped, unpacking_stopped, unread_ending};
 
 use crate::report::{
     Ends, Report, no_frames, no_memory, read_fault, short_frame, stream_fault, too_large, too_long,
@@ -20,7 +19,7 @@ use std::alloc::{AllocError, Global};
 impl Ends for FlatError {
     ghost ending = { coding_stopped };
 
-    #[tactic(auto, unfolding(crate::specs::Coding::coding_stopped))]
+    #[tactic(auto, unfolding(crate::specs::Stops::coding_stopped))]
     fn report(&self, alloc: Global) -> Result<Report, AllocError> {
         match self {
             FlatError::Read => read_fault(alloc),
@@ -36,7 +35,7 @@ impl Ends for FlatError {
 impl Ends for EncodeError {
     ghost ending = { encoding_stopped };
 
-    #[tactic(auto, unfolding(crate::specs::Encoding::encoding_stopped))]
+    #[tactic(auto, unfolding(crate::specs::Stops::encoding_stopped))]
     fn report(&self, alloc: Global) -> Result<Report, AllocError> {
         match self {
             EncodeError::Read => read_fault(alloc),
@@ -49,10 +48,11 @@ impl Ends for EncodeError {
     }
 }
 
+/// A text whose header line wasn't read.
 impl Ends for Y4mError {
     ghost ending = { unread_ending };
 
-    #[tactic(auto, unfolding(crate::specs::Y4mCoding::unread_ending))]
+    #[tactic(auto, unfolding(crate::specs::Stops::unread_ending))]
     fn report(&self, alloc: Global) -> Result<Report, AllocError> {
         match self {
             Y4mError::Read => read_fault(alloc),
@@ -65,7 +65,7 @@ impl Ends for Y4mError {
 impl Ends for DecodeError {
     ghost ending = { decoding_stopped };
 
-    #[tactic(auto, unfolding(crate::specs::Decoding::decoding_stopped))]
+    #[tactic(auto, unfolding(crate::specs::Stops::decoding_stopped))]
     fn report(&self, alloc: Global) -> Result<Report, AllocError> {
         match self {
             DecodeError::Read => read_fault(alloc),
@@ -81,7 +81,7 @@ impl Ends for DecodeError {
 impl Ends for MendError {
     ghost ending = { mending_stopped };
 
-    #[tactic(auto, unfolding(crate::specs::Mending::mending_stopped))]
+    #[tactic(auto, unfolding(crate::specs::Stops::mending_stopped))]
     fn report(&self, alloc: Global) -> Result<Report, AllocError> {
         match self {
             MendError::Read => read_fault(alloc),
@@ -96,7 +96,7 @@ impl Ends for MendError {
 impl Ends for MakeError {
     ghost ending = { making_stopped };
 
-    #[tactic(auto, unfolding(crate::specs::Making::making_stopped))]
+    #[tactic(auto, unfolding(crate::specs::Stops::making_stopped))]
     fn report(&self, alloc: Global) -> Result<Report, AllocError> {
         match self {
             MakeError::Write => write_fault(alloc),
@@ -108,7 +108,7 @@ impl Ends for MakeError {
 impl Ends for CutError {
     ghost ending = { cutting_stopped };
 
-    #[tactic(auto, unfolding(crate::specs::Cutting::cutting_stopped))]
+    #[tactic(auto, unfolding(crate::specs::Stops::cutting_stopped))]
     fn report(&self, alloc: Global) -> Result<Report, AllocError> {
         match self {
             CutError::Read => read_fault(alloc),
@@ -146,7 +146,7 @@ fn not_cuttable(alloc: Global, place: u64) -> Result<Report, AllocError>
 impl Ends for EncodeFault {
     ghost ending = { packing_stopped };
 
-    #[tactic(auto, unfolding(crate::specs::Packing::packing_stopped))]
+    #[tactic(auto, unfolding(crate::specs::Stops::packing_stopped))]
     fn report(&self, alloc: Global) -> Result<Report, AllocError> {
         match self {
             EncodeFault::Read => read_fault(alloc),
@@ -161,7 +161,7 @@ impl Ends for EncodeFault {
 impl Ends for UnpackError {
     ghost ending = { unpacking_stopped };
 
-    #[tactic(auto, unfolding(crate::specs::Packing::unpacking_stopped))]
+    #[tactic(auto, unfolding(crate::specs::Stops::unpacking_stopped))]
     fn report(&self, alloc: Global) -> Result<Report, AllocError> {
         match self {
             UnpackError::Read => read_fault(alloc),

@@ -82,7 +82,6 @@ impl Ends for EncodeOutcome {
     }
 }
 
-/// A text whose header line wasn't read.
 impl Ends for Y4mOutcome {
     ghost ending = { y4m_ending };
 

@@ -24,13 +24,11 @@ pub struct Status {
 
 /// Does what the words say, all but the report.
 fn carried_out<R: Threads + Wait + Sync, S: Source, K: Sink, N: NamedSink, G: Gate + Sync>(
-    rt: &R,
-    alloc: Global,
+    crew: &Crew<R, G>,
     words: &[String],
     input: &mut S,
     output: &mut K,
     recon: &mut N,
-    gate: &G,
 ) -> Outcome
     requires output { IsTrue (K.ready output.old) }
     requires recon { IsFalse (N.ready recon.old) }
@@ -41,27 +39,28 @@ fn carried_out<R: Threads + Wait + Sync, S: Source, K: Sink, N: NamedSink, G: Ga
     ensures output { SinkStays K.ready K.name K.faults output.old output.new }
     ensures input { S.faults input.old ≤ S.faults input.new }
 {
+    let alloc = crew.alloc;
     match meaning(alloc, words) {
         Ok(Some(Command::Flat(meant))) => Outcome::Flat(coded(alloc, &meant, input, output)),
         Ok(Some(Command::Encode(meant))) => {
-            Outcome::Encode(encoded(rt, alloc, &meant, input, output, recon, gate))
+            Outcome::Encode(encoded(crew, &meant, input, output, recon))
         }
         Ok(Some(Command::Decode(workers))) => {
-            Outcome::Decode(decoded(&Crew { rt, alloc, gate }, workers, input, output))
+            Outcome::Decode(decoded(crew, workers, input, output))
         }
         Ok(Some(Command::Check)) => Outcome::Check(judged(alloc, input)),
         Ok(Some(Command::Audit(meant))) => Outcome::Audit(audited(alloc, &meant, input, output)),
         Ok(Some(Command::Mend(meant))) => {
             Outcome::Mend(mended(alloc, &meant, input, output, recon))
         }
-        Ok(Some(Command::Make(seed))) => Outcome::Make(made(rt, alloc, seed, output, gate)),
+        Ok(Some(Command::Make(seed))) => Outcome::Make(made(crew, seed, output)),
         Ok(Some(Command::Cut(meant))) => Outcome::Cut(cut_out(alloc, &meant, input, output)),
         Ok(Some(Command::Pack(header))) => {
             Outcome::Pack(packed_frames(alloc, &header, input, output))
         }
         Ok(Some(Command::Unpack)) => Outcome::Unpack(unpacked(alloc, input, output)),
         Ok(Some(Command::EncodeY4m(meant))) => {
-            Outcome::EncodeY4m(encoded_text(rt, alloc, meant, input, output, recon, gate))
+            Outcome::EncodeY4m(encoded_text(crew, meant, input, output, recon))
         }
         Ok(None) => Outcome::Usage,
         Err(AllocError) => Outcome::NoMemory,
@@ -135,6 +134,7 @@ pub fn run<R: Threads + Wait + Sync, S: Source, K: Sink, N: NamedSink, E: Sink, 
     ensures report { SinkStays E.ready E.name E.faults report.old report.new }
     ensures input { S.faults input.old ≤ S.faults input.new }
 {
-    let outcome = carried_out(rt, alloc, words, input, output, recon, gate);
+    let crew = Crew { rt, alloc, gate };
+    let outcome = carried_out(&crew, words, input, output, recon);
     reported(alloc, &outcome, report)
 }

@@ -164,17 +164,16 @@ pub(crate) fn cut_out<S: Source, K: Sink>(
 
 /// Makes the stream of a seed.
 pub(crate) fn made<R: Threads + Wait + Sync, K: Sink, G: Gate + Sync>(
-    rt: &R,
-    alloc: Global,
+    crew: &Crew<R, G>,
     seed: u64,
     output: &mut K,
-    gate: &G,
 ) -> MakeOutcome
     requires { IsTrue (K.ready output.old) }
     ensures comes { MakeComes seed (change K.held K.faults output.old output.new) result }
     ensures output { SinkStays K.ready K.name K.faults output.old output.new }
 {
-    match make(rt, alloc, seed, output, gate) {
+    let Crew { rt, alloc, gate } = crew;
+    match make(*rt, *alloc, seed, output, *gate) {
         Ok(made) => MakeOutcome::Done { seed, made },
         Err(error) => MakeOutcome::Stopped(error),
     }
