@@ -1,7 +1,7 @@
 ghost use Rattle.std.specs.Prelude.{◌≡◌, ◌<◌, ◌≤◌, ◌^◌, IsTrue, IfOk, IfErr, OnOk, None, is_some};
 ghost use Rattle.m2v_port.specs.Ends.{change, Tells, SinkStays};
 ghost use Rattle.m2v_decode.specs.Decoding.{at_start};
-ghost use Rattle.m2v_decode.specs.Answers.{OfText, IsDecoded, HasDecoded, Fails};
+ghost use Rattle.m2v_decode.specs.Answers.{OfText, IsDecoded, Fails};
 ghost use Rattle.m2v_decode.specs.Complete.{IsAnswered};
 ghost use Rattle.m2v_decode.specs.Progress.{before_all, IsDone};
 ghost use Rattle.m2v_pardec.specs.Put.{CanGoOn, Goes};
@@ -183,9 +183,9 @@ fn by_batches<R: Threads + Wait + Sync, S: Source, K: Sink, G: Gate + Sync>(
     output: &mut K,
 ) -> Result<Decoded, DecodeError>
     requires output { IsTrue (K.ready output.old) }
-    ensures ok { IfOk result (HasDecoded
-        (change S.left S.faults input.old input.new)
-        (change K.held K.faults output.old output.new)) }
+    ensures ok { IfOk result (λ d. OfText
+        (change S.left S.faults input.old input.new) (λ text. IsDecoded text
+        (change K.held K.faults output.old output.new) d)) }
     ensures err { IfErr result (Fails
         (change S.left S.faults input.old input.new)
         (change K.held K.faults output.old output.new)) }
