@@ -4,10 +4,13 @@ use Rattle.std.specs.Prelude.{nat_eq, if◌then◌else◌}
 use Rattle.std.proofs.lemmas.Grind.{flat_map-append}
 use Rattle.m2v_port.specs.Ends.{Change, absent}
 use Rattle.m2v_port.specs.Port.{Rose, Grows, GrowsByPrefix}
+use Rattle.m2v_port.specs.declared.error.PortError.{PortError}
+use Rattle.m2v_port.specs.declared.error.PortError.TheVariants as ports
 use Rattle.m2v_port.proofs.Runs.{rose_since, grows_absent, prefix_absent, failed_here, moves_nothing, grows_by_all, grows_by_none, prefix_on, prefix_of_more, grows_on}
 use Rattle.m2v_model.specs.declared.state.Sequence.{Sequence}
 use Rattle.m2v_model.specs.Pieces.{Limit, too_long, too_large}
 use Rattle.m2v_model.specs.Units.{joined}
+use Rattle.m2v_dec_piece.specs.Putting.{named}
 use Rattle.m2v_decode.specs.m2v_dec_piece.Cutting.{Cutting}
 use Rattle.m2v_decode.specs.m2v_dec_piece.declared.answer.Piece.{Piece}
 use Rattle.m2v_decode.specs.Answers.{OfText}
@@ -30,7 +33,7 @@ use Rattle.m2v_mend.specs.Feeding.{stretches_at}
 use Rattle.m2v_mend.specs.Gathering.{Tally, nothing_told, behind_stretches, IsTally}
 use Rattle.m2v_mend.specs.Making.{gap_told, fault_first, IsMade}
 use Rattle.m2v_mend.specs.Strand.{wholes_of}
-use Rattle.m2v_mend.specs.Stretching.{Held, Cuts, Fell, FellOut, IsBehind, Comes, IsCut, PastLimit, IsPast, IsAll, kept_told, held_before, held_after}
+use Rattle.m2v_mend.specs.Stretching.{Held, Fell, FellOut, IsBehind, Comes, IsCut, PastLimit, IsPast, IsAll, kept_told, held_before, held_after}
 use Rattle.m2v_mend.proofs.Gathering.{tallied}
 use Rattle.m2v_mend.proofs.Growing.{IsOver, over_ended, done_bytes}
 use Rattle.m2v_mend.proofs.Made.{none_under}
@@ -203,16 +206,16 @@ module _ (c : Cutting) (x : Folding) (end : ℕ) (first left : Option (List ℕ)
         listed = subst (λ (l : List ℕ). GrowsByPrefix start.list l held'.list) (list_is text written listed end x f) (grows_by_all (grows_on grown.list lines));
       }) h
 
-pub cut_prefix : (bytes : List ℕ) (held : Change) (e : MendError) → Cuts bytes held e → GrowsByPrefix held.old bytes held.new
-cut_prefix bytes held errors.Write cut = cut.1
-cut_prefix bytes held errors.Memory cut = cut
-cut_prefix bytes held _ cut = absurd cut
-
 -- an error of the one or the other sink comes where that failed
 fell_as : (A B : Type 0) → (A → B) → (e : MendError) → FellOut A e → FellOut B e
 fell_as A B f errors.Write fell = f fell
 fell_as A B f errors.Memory fell = tt
 fell_as A B f _ fell = absurd fell
+
+-- an error of one sink
+pub fell_named : (Output : Type 0) (e : PortError) → (e ≡ ports.Failed → Output) → FellOut Output (named e errors.Write errors.Memory)
+fell_named Output ports.Failed failed = failed refl
+fell_named Output ports.Memory failed = tt
 
 -- counts that rose in the last part rose in the whole
 pub either_since : {before between now before' between' now' : ℕ} → before ≤ between → before' ≤ between' → (Rose between now ⊎ Rose between' now') → Rose before now ⊎ Rose before' now'

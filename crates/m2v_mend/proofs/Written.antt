@@ -2,52 +2,19 @@
 use Rattle.std.proofs.Common.{◌≡◌, ℕ, suc, ◌+◌, ◌-◌, ◌<◌, ◌≤◌, List, [], ◌∷◌, ◌++◌, length, take, drop, get_or, replicate, Option, sym, ap, subst, ◌∙◌, append-nil, arith}
 use Rattle.std.specs.Prelude.{vec_len}
 use Rattle.std.proofs.Math.Seq.{take-suc}
-use Rattle.std.proofs.lemmas.List.{take-append-drop, take_all, take-replicate, replicate-append-replicate}
-use Rattle.m2v_port.specs.Ends.{Change, change}
+use Rattle.std.proofs.lemmas.List.{take-append-drop, take_all}
+use Rattle.m2v_port.specs.Ends.{change}
 use Rattle.m2v_port.specs.Port.{Grows}
-use Rattle.m2v_port.proofs.Runs.{rose_since, grows_on, prefix_on, prefix_of_more}
-use Rattle.m2v_mend.specs.declared.answer.MendError.{MendError}
-use Rattle.m2v_mend.specs.declared.answer.MendError.TheVariants as errors
+use Rattle.m2v_port.specs.declared.error.PortError.{PortError}
+use Rattle.m2v_port.proofs.Runs.{grows_on}
 use Rattle.m2v_model.specs.Units.{joined}
 use Rattle.m2v_model.proofs.CutLaws.{joined-append}
+use Rattle.m2v_dec_piece.specs.Putting.{PutStops}
+use Rattle.m2v_dec_piece.proofs.PutLaws.{stops_more, stops_on}
 use Rattle.m2v_decode.specs.m2v_dec_piece.declared.answer.Piece.{Piece}
 use Rattle.m2v_decode.specs.Decoding.{whole_of}
 use Rattle.m2v_mend.specs.Strand.{wholes_of}
-use Rattle.m2v_mend.specs.Stretching.{Cuts}
 use Rattle.m2v_mend.proofs.Parting.{wholes_append as each_append}
-
--- The output's states are o0, o1 and so on.
-module _ {K : Type 0} (held : K → Option (List ℕ)) (output_faults : K → ℕ) where
-  abbrev output : K → K → Change
-  output = change held output_faults
-
-  -- more was to be written
-  pub cuts_more : (o0 o1 : K) (bytes more : List ℕ) (e : MendError) → Cuts bytes (output o0 o1) e → Cuts (bytes ++ more) (output o0 o1) e
-  cuts_more o0 o1 bytes more errors.Write cut = (cut.0, prefix_of_more cut.1 more)
-  cuts_more o0 o1 bytes more errors.Memory cut = prefix_of_more cut more
-  cuts_more o0 o1 bytes more _ cut = absurd cut
-
-  -- some was written before
-  pub cuts_on : (o0 o1 o2 : K) (bytes more : List ℕ) (e : MendError) → output_faults o0 ≤ output_faults o1 → Grows (held o0) bytes (held o1) → Cuts more (output o1 o2) e → Cuts (bytes ++ more) (output o0 o2) e
-  cuts_on o0 o1 o2 bytes more errors.Write le grown cut = (rose_since le cut.0, prefix_on grown cut.1)
-  cuts_on o0 o1 o2 bytes more errors.Memory le grown cut = prefix_on grown cut
-  cuts_on o0 o1 o2 bytes more _ le grown cut = absurd cut
-
-  -- zero bytes, of which some were written
-  pub zeros_on : (o0 o1 o2 : K) (zeros left n : ℕ) → n ≤ left → left ≤ zeros → Grows (held o0) (replicate (zeros - left) 0) (held o1) → Grows (held o1) (replicate n 0) (held o2) → Grows (held o0) (replicate (zeros - (left - n)) 0) (held o2)
-  zeros_on o0 o1 o2 zeros left n le less grown next =
-      let e : (zeros - left) + n ≡ zeros - (left - n) = omega arith in
-      subst (λ (b : List ℕ). Grows (held o0) b (held o2)) (replicate-append-replicate (zeros - left) n 0 ∙ ap (λ (k : ℕ). replicate k 0) e) (grows_on grown next)
-
-  pub zeros_cut : (o0 o1 o2 : K) (zeros left n : ℕ) (e : MendError) → n ≤ left → left ≤ zeros → output_faults o0 ≤ output_faults o1 → Grows (held o0) (replicate (zeros - left) 0) (held o1) → Cuts (replicate n 0) (output o1 o2) e → Cuts (replicate zeros 0) (output o0 o2) e
-  zeros_cut o0 o1 o2 zeros left n e le less faults grown cut =
-      let q : ((zeros - left) + n) + (left - n) ≡ zeros = omega arith in
-      subst (λ (b : List ℕ). Cuts b (output o0 o2) e) (replicate-append-replicate ((zeros - left) + n) (left - n) 0 ∙ ap (λ (k : ℕ). replicate k 0) q)
-      (cuts_more o0 o2 (replicate ((zeros - left) + n) 0) (replicate (left - n) 0) e
-      (subst (λ (b : List ℕ). Cuts b (output o0 o2) e) (replicate-append-replicate (zeros - left) n 0) (cuts_on o0 o1 o2 (replicate (zeros - left) 0) (replicate n 0) e faults grown cut)))
-
-pub of_buffer : (n most : ℕ) → n ≤ most → take {A = ℕ} n (replicate most 0) ≡ replicate n 0
-of_buffer n most le = take-replicate n most 0 le
 
 -- ---- pieces one behind another
 
@@ -69,11 +36,11 @@ module _ {K : Type 0} (held : K → Option (List ℕ)) (output_faults : K → �
   pub pieces_on : (o0 o1 o2 : K) (ps : List Piece) (i : ℕ) (p : Piece) → i < length ps → p ≡ get_or ps i p → Grows (held o0) (joined (wholes_of (take i ps))) (held o1) → Grows (held o1) (whole_of p) (held o2) → Grows (held o0) (joined (wholes_of (take (i + 1) ps))) (held o2)
   pieces_on o0 o1 o2 ps i p lt is grown next = subst (λ (b : List ℕ). Grows (held o0) b (held o2)) (sym (wholes_more ps i p lt is)) (grows_on grown next)
 
-  pub pieces_cut : (o0 o1 o2 : K) (ps : List Piece) (i : ℕ) (p : Piece) (e : MendError) → i < length ps → p ≡ get_or ps i p → output_faults o0 ≤ output_faults o1 → Grows (held o0) (joined (wholes_of (take i ps))) (held o1) → Cuts (whole_of p) (change held output_faults o1 o2) e
-      → Cuts (joined (wholes_of ps)) (change held output_faults o0 o2) e
-  pieces_cut o0 o1 o2 ps i p e lt is le grown cut =
-      subst (λ (b : List ℕ). Cuts b (change held output_faults o0 o2) e) (ap (λ (b : List ℕ). b ++ joined (wholes_of (drop (i + 1) ps))) (sym (wholes_more ps i p lt is)) ∙ wholes_left ps (i + 1))
-      (cuts_more held output_faults o0 o2 (joined (wholes_of (take i ps)) ++ whole_of p) (joined (wholes_of (drop (i + 1) ps))) e (cuts_on held output_faults o0 o1 o2 (joined (wholes_of (take i ps))) (whole_of p) e le grown cut))
+  pub pieces_stop : (o0 o1 o2 : K) (ps : List Piece) (i : ℕ) (p : Piece) (e : PortError) → i < length ps → p ≡ get_or ps i p → output_faults o0 ≤ output_faults o1 → Grows (held o0) (joined (wholes_of (take i ps))) (held o1) → PutStops (whole_of p) (change held output_faults o1 o2) e
+      → PutStops (joined (wholes_of ps)) (change held output_faults o0 o2) e
+  pieces_stop o0 o1 o2 ps i p e lt is le grown cut =
+      subst (λ (b : List ℕ). PutStops b (change held output_faults o0 o2) e) (ap (λ (b : List ℕ). b ++ joined (wholes_of (drop (i + 1) ps))) (sym (wholes_more ps i p lt is)) ∙ wholes_left ps (i + 1))
+      (stops_more held output_faults o0 o2 (joined (wholes_of (take i ps)) ++ whole_of p) (joined (wholes_of (drop (i + 1) ps))) e (stops_on held output_faults o0 o1 o2 (joined (wholes_of (take i ps))) (whole_of p) e le grown cut))
 
   pub pieces_all : (o0 o1 : K) (ps : List Piece) (i : ℕ) → length ps ≤ i → Grows (held o0) (joined (wholes_of (take i ps))) (held o1) → Grows (held o0) (joined (wholes_of ps)) (held o1)
   pieces_all o0 o1 ps i le grown = subst (λ (l : List Piece). Grows (held o0) (joined (wholes_of l)) (held o1)) (take_all i ps le) grown

@@ -49,14 +49,6 @@ pub record ArePrefixes (text : List ℕ) (old new : Held) : Type 0 where
   pub mended : GrowsByPrefix old.text (mended_bytes text) new.text
   pub listed : GrowsByPrefix old.list (list_of text) new.list
 
--- why bytes weren't written whole: output failed or memory ran out, and a prefix of them stands
-abbrev pub Cuts : List ℕ → Change → MendError → Type 0
-Cuts bytes held errors.Read = ⊥
-Cuts bytes held errors.Write = held.Failed × GrowsByPrefix held.old bytes held.new
-Cuts bytes held errors.TooLong = ⊥
-Cuts bytes held errors.PictureTooLarge = ⊥
-Cuts bytes held errors.Memory = GrowsByPrefix held.old bytes held.new
-
 -- an error of an endpoint comes where that failed
 abbrev pub Fell : Type 0 → Type 0 → MendError → Type 0
 Fell Input Output errors.Read = Input

@@ -1,7 +1,10 @@
 ghost use Rattle.std.specs.Prelude.{◌≡◌};
+ghost use Rattle.m2v_dec_piece.specs.Putting.{named};
 ghost use Rattle.m2v_mend.specs.declared.answer.MendError.TheVariants as errors;
 
+use m2v_dec_piece::named;
 use m2v_decode::{Fault, Memory};
+use m2v_port::PortError;
 
 /// What is answered to a text that is mended.
 #[derive(Clone, Copy, Debug, PartialEq, Eq)]
@@ -39,6 +42,14 @@ pub enum MendError {
     PictureTooLarge,
     /// Memory ran out.
     Memory,
+}
+
+impl From<PortError> for MendError {
+    ghost from_gives = { λ e f. f ≡ named e errors.Write errors.Memory };
+
+    fn from(e: PortError) -> MendError {
+        named(e, MendError::Write, MendError::Memory)
+    }
 }
 
 impl From<Memory> for MendError {

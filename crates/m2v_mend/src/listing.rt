@@ -2,17 +2,16 @@
 ghost use Rattle.std.specs.Prelude.{◌≡◌, ◌++◌, map, option_map, codes, IsTrue, IfOk, IfErr, OnOk};
 ghost use Rattle.m2v_port.specs.Ends.{change, SinkStays};
 ghost use Rattle.m2v_port.specs.Port.{Grows};
+ghost use Rattle.m2v_dec_piece.specs.Putting.{PutStops};
 ghost use Rattle.m2v_mend.specs.Listing.{numbered, why_told, gap_line, lines_of};
 ghost use Rattle.m2v_mend.specs.Making.{fault_told, gap_told};
-ghost use Rattle.m2v_mend.specs.Stretching.{Cuts};
 
 use crate::Memory;
-use crate::answer::MendError;
 use crate::gap::Gap;
-use crate::writing::put;
 use itoa::Buffer;
+use m2v_dec_piece::put;
 use m2v_decode::{Fault, fault_word};
-use m2v_port::Sink;
+use m2v_port::{PortError, Sink};
 use std::alloc::Global;
 
 /// Appends a text and a number in decimal.
@@ -67,11 +66,11 @@ fn lines(alloc: Global, gaps: &[Gap]) -> Result<Vec<u8>, Memory>
 }
 
 /// Writes the lines of gaps.
-pub(crate) fn put_lines<L: Sink>(alloc: Global, gaps: &[Gap], list: &mut L) -> Result<(), MendError>
+pub(crate) fn put_lines<L: Sink>(alloc: Global, gaps: &[Gap], list: &mut L) -> Result<(), PortError>
     requires list { IsTrue (L.ready list.old) }
     ensures grown { OnOk result (Grows (L.held list.old) (lines_of (map gap_told gaps.now))
         (L.held list.new)) }
-    ensures err { IfErr result (Cuts (lines_of (map gap_told gaps.now))
+    ensures err { IfErr result (PutStops (lines_of (map gap_told gaps.now))
         (change L.held L.faults list.old list.new)) }
     ensures list { SinkStays L.ready L.name L.faults list.old list.new }
 {

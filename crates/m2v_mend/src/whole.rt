@@ -16,7 +16,7 @@ use crate::folding::Folding;
 use crate::listing::put_lines;
 use crate::stretch::stretch;
 use crate::sums::sum;
-use crate::writing::put;
+use m2v_dec_piece::put;
 use m2v_decode::Fault;
 use m2v_model::FaultKind;
 use m2v_port::{Nowhere, Sink, Source};

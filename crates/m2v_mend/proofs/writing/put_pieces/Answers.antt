@@ -1,6 +1,6 @@
 use Rattle.std.proofs.lemmas.Result.{err_from_is_err_and}
 use Rattle.m2v_port.proofs.Runs.{stays_here, stays_on, grows_by_nothing}
-use Rattle.m2v_mend.proofs.Written.{pieces_on, pieces_cut, pieces_all}
+use Rattle.m2v_mend.proofs.Written.{pieces_on, pieces_stop, pieces_all}
 use Rattle.m2v_mend.proofs.writing.put_pieces.Goals as goal
 
 pub loop-piece-init : goal.loop-piece-init
@@ -10,7 +10,7 @@ pub returns-in_err-put_piece-clause-err : goal.returns-in_err-put_piece-clause-e
 returns-in_err-put_piece-clause-err g c =
     let p = err_from_is_err_and c.from_residual.result c.from_residual.ensures.1 in
     let inv = c.loop-piece.invariant in
-    rw (p.1, p.2) (pieces_cut g.K.Sink.held g.K.Sink.faults _ _ _ c.args.pieces.now c.loop-piece.piece-index c.piece-item.result c.in_err-put_piece.field-0.0 c.loop-piece-test.true c.piece-item.is inv.output.counts inv.grown c.in_err-put_piece.ensures.err)
+    rw (p.1, p.2) (pieces_stop g.K.Sink.held g.K.Sink.faults _ _ _ c.args.pieces.now c.loop-piece.piece-index c.piece-item.result c.in_err-put_piece.field-0.0 c.loop-piece-test.true c.piece-item.is inv.output.counts inv.grown c.in_err-put_piece.ensures.err)
 
 pub loop-piece-preserved : goal.loop-piece-preserved
 loop-piece-preserved g c =
