@@ -41,6 +41,11 @@ PutStops bytes held Write = held.Failed × GrowsByPrefix held.old bytes held.new
 PutStops bytes held Memory = GrowsByPrefix held.old bytes held.new
 PutStops bytes held _ = ⊥
 
+-- what writing some bytes answers, and what is held then
+pub record Puts {A : Type 0} (bytes : List ℕ) (held : Change) (result : Result A EncodeError) : Type 0 where
+  pub grown : OnOk result (Grows held.old bytes held.new)
+  pub err : IfErr result (PutStops bytes held)
+
 -- ---- a picture
 
 -- a picture of so many bits was sent, and so many zero bits behind it

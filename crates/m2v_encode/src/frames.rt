@@ -1,14 +1,13 @@
 //! The frames of a group as a decoder rebuilds them.
-ghost use Rattle.std.specs.Prelude.{◌≡◌, ◌*◌, ◌<◌, ◌≤◌, IsTrue, IfOk, IfErr, OnOk, Some, None, true, false, length, nat_eq, if◌then◌else◌};
+ghost use Rattle.std.specs.Prelude.{◌≡◌, ◌*◌, ◌<◌, ◌≤◌, IsTrue, IfOk, Some, None, true, false, length, nat_eq, if◌then◌else◌};
 ghost use Rattle.m2v_port.specs.Ends.{change, SinkStays};
-ghost use Rattle.m2v_port.specs.Port.{Grows};
 ghost use Rattle.m2v_plane.specs.Raw.{frame_bytes, raw, crop};
 ghost use Rattle.m2v_set.specs.Numbers.{dims_of};
 ghost use Rattle.m2v_slice.specs.Books.{job_at};
 ghost use Rattle.m2v_law_shown.specs.m2v_enc_stream.Streams.{frame_of, anchor_frame};
 ghost use Rattle.m2v_encode.specs.Groups.{all_coded, group_shown, anchor_behind};
 ghost use Rattle.m2v_encode.specs.Rebuilt.{with_rows};
-ghost use Rattle.m2v_encode.specs.Steps.{PutStops};
+ghost use Rattle.m2v_encode.specs.Steps.{Puts};
 
 use crate::answer::EncodeError;
 use crate::done::DoneGroup;
@@ -99,11 +98,9 @@ impl DoneGroup {
     ) -> Result<Option<Frame>, EncodeError>
         requires buffer { length buffer.old ≡ frame_bytes (dims_of self.now.settings) }
         requires recon { IsTrue (K.ready recon.old) }
-        ensures grown { OnOk result (Grows (K.held recon.old) (raw (group_shown self.now))
-            (K.held recon.new)) }
+        ensures put { Puts (raw (group_shown self.now))
+            (change K.held K.faults recon.old recon.new) result }
         ensures anchor { IfOk result (λ f. f ≡ anchor_behind self.now) }
-        ensures err { IfErr result (PutStops (raw (group_shown self.now))
-            (change K.held K.faults recon.old recon.new)) }
         ensures recon { SinkStays K.ready K.name K.faults recon.old recon.new }
     {
         // the first picture of a book is an anchor
@@ -145,11 +142,9 @@ impl DoneGroup {
             → length buffer.old ≡ frame_bytes (dims_of self.now.settings) }
         requires recon { IsTrue (K.ready recon.old) }
         requires unshown { shown ≡ false → K.held recon.old ≡ None }
-        ensures grown { OnOk result (Grows (K.held recon.old) (raw (group_shown self.now))
-            (K.held recon.new)) }
+        ensures put { Puts (raw (group_shown self.now))
+            (change K.held K.faults recon.old recon.new) result }
         ensures anchor { IfOk result (λ f. f ≡ anchor_behind self.now) }
-        ensures err { IfErr result (PutStops (raw (group_shown self.now))
-            (change K.held K.faults recon.old recon.new)) }
         ensures recon { SinkStays K.ready K.name K.faults recon.old recon.new }
     {
         if shown {

@@ -11,7 +11,7 @@ ghost use Rattle.m2v_slice.specs.Headers.{header_units, bits_to_code};
 ghost use Rattle.m2v_slice.specs.Books.{rows, job_at, size_of};
 ghost use Rattle.m2v_law_shown.specs.m2v_enc_stream.Streams.{zeros_of, delay_at, picture_text, pictures_text, zeros_sum};
 ghost use Rattle.m2v_encode.specs.Groups.{all_coded, whole_ledger, slices_text, group_text, IsPlace};
-ghost use Rattle.m2v_encode.specs.Steps.{PutStops, Sent};
+ghost use Rattle.m2v_encode.specs.Steps.{PutStops, Puts, Sent};
 
 use crate::answer::{EncodeError, Summary};
 use crate::done::DoneGroup;
@@ -29,8 +29,7 @@ const ZEROS: usize = 512;
 /// Writes bytes.
 pub(crate) fn put_bytes<K: Sink>(bytes: &[u8], output: &mut K) -> Result<(), EncodeError>
     requires output { IsTrue (K.ready output.old) }
-    ensures grown { OnOk result (Grows (K.held output.old) bytes.now (K.held output.new)) }
-    ensures err { IfErr result (PutStops bytes.now (change K.held K.faults output.old output.new)) }
+    ensures put { Puts bytes.now (change K.held K.faults output.old output.new) result }
     ensures output { SinkStays K.ready K.name K.faults output.old output.new }
 {
     match output.put(bytes) {
@@ -43,10 +42,8 @@ pub(crate) fn put_bytes<K: Sink>(bytes: &[u8], output: &mut K) -> Result<(), Enc
 /// Writes the bytes of a text.
 pub(crate) fn put_text<K: Sink>(bytes: &[u8], output: &mut K) -> Result<(), EncodeError>
     requires output { IsTrue (K.ready output.old) }
-    ensures grown { OnOk result
-        (Grows (K.held output.old) (packed (bits bytes.now)) (K.held output.new)) }
-    ensures err { IfErr result (PutStops (packed (bits bytes.now))
-        (change K.held K.faults output.old output.new)) }
+    ensures put { Puts (packed (bits bytes.now))
+        (change K.held K.faults output.old output.new) result }
     ensures output { SinkStays K.ready K.name K.faults output.old output.new }
 {
     put_bytes(bytes, output)
@@ -56,10 +53,7 @@ pub(crate) fn put_text<K: Sink>(bytes: &[u8], output: &mut K) -> Result<(), Enco
 fn put_some_zeros<K: Sink>(count: usize, output: &mut K) -> Result<(), EncodeError>
     requires few { count ≤ 512 }
     requires output { IsTrue (K.ready output.old) }
-    ensures grown { OnOk result
-        (Grows (K.held output.old) (replicate count 0) (K.held output.new)) }
-    ensures err { IfErr result (PutStops (replicate count 0)
-        (change K.held K.faults output.old output.new)) }
+    ensures put { Puts (replicate count 0) (change K.held K.faults output.old output.new) result }
     ensures output { SinkStays K.ready K.name K.faults output.old output.new }
 {
     let zeros = [0u8; ZEROS];
@@ -69,10 +63,7 @@ fn put_some_zeros<K: Sink>(count: usize, output: &mut K) -> Result<(), EncodeErr
 /// Writes zero bytes.
 fn put_zeros<K: Sink>(count: u64, output: &mut K) -> Result<(), EncodeError>
     requires output { IsTrue (K.ready output.old) }
-    ensures grown { OnOk result
-        (Grows (K.held output.old) (replicate count 0) (K.held output.new)) }
-    ensures err { IfErr result (PutStops (replicate count 0)
-        (change K.held K.faults output.old output.new)) }
+    ensures put { Puts (replicate count 0) (change K.held K.faults output.old output.new) result }
     ensures output { SinkStays K.ready K.name K.faults output.old output.new }
 {
     let mut left = count;
@@ -111,16 +102,10 @@ impl DoneGroup {
         requires most { account.held ≤ 1800 * buffer_bits self.now.settings }
         requires room { 384 ≤ headers.old.room + length headers.old.written }
         requires output { IsTrue (K.ready output.old) }
-        ensures grown { OnOk result (Grows (K.held output.old)
-            (packed (header_units self.now.settings (job_at self.now p)
+        ensures put { Puts (packed (header_units self.now.settings (job_at self.now p)
             ((account.held - 1800 * bits_to_code (job_at self.now p)) /
             (8 * self.now.settings.bits))))
-            (K.held output.new)) }
-        ensures err { IfErr result (PutStops
-            (packed (header_units self.now.settings (job_at self.now p)
-            ((account.held - 1800 * bits_to_code (job_at self.now p)) /
-            (8 * self.now.settings.bits))))
-            (change K.held K.faults output.old output.new)) }
+            (change K.held K.faults output.old output.new) result }
         ensures room { 384 ≤ headers.new.room + length headers.new.written }
         ensures output { SinkStays K.ready K.name K.faults output.old output.new }
     {
@@ -135,10 +120,8 @@ impl DoneGroup {
     fn put_slices<K: Sink>(&self, p: u32, output: &mut K) -> Result<(), EncodeError>
         requires picture { p < length self.now.pictures }
         requires output { IsTrue (K.ready output.old) }
-        ensures grown { OnOk result (Grows (K.held output.old)
-            (packed (slices_text self.now p (rows self.now))) (K.held output.new)) }
-        ensures err { IfErr result (PutStops (packed (slices_text self.now p (rows self.now)))
-            (change K.held K.faults output.old output.new)) }
+        ensures put { Puts (packed (slices_text self.now p (rows self.now)))
+            (change K.held K.faults output.old output.new) result }
         ensures output { SinkStays K.ready K.name K.faults output.old output.new }
     {
         for r in 0..self.rows() {

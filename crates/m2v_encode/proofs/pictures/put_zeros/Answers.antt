@@ -6,13 +6,15 @@ use Rattle.m2v_encode.proofs.Puts.{put_then, grown_by}
 use Rattle.m2v_encode.proofs.PictureTexts.{zeros_split}
 use Rattle.m2v_encode.proofs.pictures.put_zeros.Goals as goal
 
-pub returns-in_err-put_some_zeros-clause-err : goal.returns-in_err-put_some_zeros-clause-err
-returns-in_err-put_some_zeros-clause-err g c =
+pub returns-in_err-put_some_zeros-clause-put : goal.returns-in_err-put_some_zeros-clause-put
+returns-in_err-put_some_zeros-clause-put g c =
     let p = err_from_is_err_and c.from_residual.result c.from_residual.ensures.1 in
     let inv = c.loop-left.invariant in
-    rw (p.1, p.2)
-    (put_then g.K.Sink.held g.K.Sink.faults _ _ _ _ _ _ (replicate {A = ℕ} (c.loop-left.left - c.min-n.result) 0) _ inv.output.counts
-    (zeros_split c.args.count c.loop-left.left c.min-n.result inv.less (omega arith)) inv.grown c.in_err-put_some_zeros.ensures.err)
+    rw (p.1, p.2) (record {
+      grown = tt;
+      err = put_then g.K.Sink.held g.K.Sink.faults _ _ _ _ _ _ (replicate {A = ℕ} (c.loop-left.left - c.min-n.result) 0) _ inv.output.counts
+          (zeros_split c.args.count c.loop-left.left c.min-n.result inv.less (omega arith)) inv.grown c.in_err-put_some_zeros.ensures.put.err;
+    })
 
 pub loop-left-preserved : goal.loop-left-preserved
 loop-left-preserved g c =
@@ -21,6 +23,6 @@ loop-left-preserved g c =
     record {
       less = omega (arith, inv.less);
       grown = grown_by (g.K.Sink.held c.args.output.now) (g.K.Sink.held c.put_some_zeros.new.output) _ _ (replicate-append-replicate (c.args.count - c.loop-left.left) c.min-n.result 0 ∙ ap (λ (n : ℕ). replicate {A = ℕ} n 0) more)
-          (grows_on inv.grown c.in_ok-put_some_zeros.ensures.grown);
+          (grows_on inv.grown c.in_ok-put_some_zeros.ensures.put.grown);
       output = stays_on inv.output c.put_some_zeros.ensures.output;
     }

@@ -20,28 +20,33 @@ loop-k-init g c = record {
   recon = stays_here c.requires.recon;
 }
 
-pub returns-in_default-clause-err : goal.returns-in_default-clause-err
+pub returns-in_default-clause-put : goal.returns-in_default-clause-put
 unfolding PutStops
-returns-in_default-clause-err g c =
+returns-in_default-clause-put g c =
     let b = c.args.self.now in
     let split = shown_split b c.loop-k.k (length b.frames - (c.loop-k.k + 1)) (omega (arith, c.frames-k-end.ensures.value)) in
-    subst (λ (t : List ℕ). GrowsByPrefix (g.K.Sink.held c.args.recon.now) t (g.K.Sink.held c.loop-k.recon)) (sym split.1)
-    (prefix_of_more (grows_by_all c.loop-k.invariant.grown) (crop (frame_of b (all_coded b) c.loop-k.k) ++ split.0))
+    record {
+      grown = tt;
+      err = subst (λ (t : List ℕ). GrowsByPrefix (g.K.Sink.held c.args.recon.now) t (g.K.Sink.held c.loop-k.recon)) (sym split.1)
+          (prefix_of_more (grows_by_all c.loop-k.invariant.grown) (crop (frame_of b (all_coded b) c.loop-k.k) ++ split.0));
+    }
 
 pub crop_into-requires : goal.crop_into-requires
 unfolding frame_of
 crop_into-requires g c = record { whole = c.loop-k.invariant.buffer ∙ ap (λ (d : Dims). frame_bytes d) (sym (ap (λ (x : Samples). x.dims) c.in-Ok.ensures.value)) }
 
-pub returns-in_err-put_bytes-clause-err : goal.returns-in_err-put_bytes-clause-err
-returns-in_err-put_bytes-clause-err g c =
+pub returns-in_err-put_bytes-clause-put : goal.returns-in_err-put_bytes-clause-put
+returns-in_err-put_bytes-clause-put g c =
     let p = err_from_is_err_and c.from_residual.result c.from_residual.ensures.1 in
     let b = c.args.self.now in
     let inv = c.loop-k.invariant in
     let split = shown_split b c.loop-k.k (length b.frames - (c.loop-k.k + 1)) (omega (arith, c.frames-k-end.ensures.value)) in
     let frame : c.crop_into.new.raw ≡ crop (frame_of b (all_coded b) c.loop-k.k) = c.crop_into.ensures.value ∙ ap crop c.in-Ok.ensures.value in
-    rw (p.1, p.2)
-    (put_then g.K.Sink.held g.K.Sink.faults _ _ _ _ _ _ split.0 _ inv.recon.counts split.1 inv.grown
-    (put_same g.K.Sink.held g.K.Sink.faults _ _ _ _ _ (sym frame) c.in_err-put_bytes.ensures.err))
+    rw (p.1, p.2) (record {
+      grown = tt;
+      err = put_then g.K.Sink.held g.K.Sink.faults _ _ _ _ _ _ split.0 _ inv.recon.counts split.1 inv.grown
+          (put_same g.K.Sink.held g.K.Sink.faults _ _ _ _ _ (sym frame) c.in_err-put_bytes.ensures.put.err);
+    })
 
 pub loop-k-preserved : goal.loop-k-preserved
 loop-k-preserved g c =
@@ -49,7 +54,7 @@ loop-k-preserved g c =
     let inv = c.loop-k.invariant in
     let frame : c.crop_into.new.raw ≡ crop (frame_of b (all_coded b) c.loop-k.k) = c.crop_into.ensures.value ∙ ap crop c.in-Ok.ensures.value in
     record {
-      grown = grown_by _ _ _ _ (ap (λ (xs : List ℕ). raw (frames_shown b c.loop-k.k) ++ xs) frame ∙ sym (shown_more b c.loop-k.k)) (grows_on inv.grown c.in_ok-put_bytes.ensures.grown);
+      grown = grown_by _ _ _ _ (ap (λ (xs : List ℕ). raw (frames_shown b c.loop-k.k) ++ xs) frame ∙ sym (shown_more b c.loop-k.k)) (grows_on inv.grown c.in_ok-put_bytes.ensures.put.grown);
       anchor = kept_next b c.last_anchor-last.result c.loop-k.k c.in-Ok.frame c.loop-k.anchor c.anchor_with-anchor.result inv.anchor c.in-Ok.ensures.value c.anchor_with-anchor.ensures.here c.anchor_with-anchor.ensures.before;
       buffer = ap length frame ∙ shown_size b c.loop-k.k;
       recon = stays_on inv.recon c.put_bytes.ensures.output;

@@ -31,14 +31,14 @@ returns-in_err-put_headers-clause-err g c =
     let p = err_from_is_err_and c.from_residual.result c.from_residual.ensures.1 in
     let parts = parts_of c.args.self.now c.pictures-book.ensures.book c.args.ledger.now c.args.ends c.args.p (8 * c.args.total.now.bytes) c.account_before-account.result c.size-size.result c.zeros_behind-zeros.result c.requires.picture c.requires.ledger c.account_before-account.ensures.value c.size-size.ensures.value c.requires.place c.requires.begun c.zeros_behind-zeros.ensures.value c.zeros_behind-zeros.ensures.bytes in
     rw (p.1, p.2)
-    (put_first g.K.Sink.held g.K.Sink.faults _ _ _ _ (packed (slices_text c.args.self.now c.args.p (rows c.args.self.now)) ++ replicate {A = ℕ} (c.zeros_behind-zeros.result / 8) 0) _ parts c.in_err-put_headers.ensures.err)
+    (put_first g.K.Sink.held g.K.Sink.faults _ _ _ _ (packed (slices_text c.args.self.now c.args.p (rows c.args.self.now)) ++ replicate {A = ℕ} (c.zeros_behind-zeros.result / 8) 0) _ parts c.in_err-put_headers.ensures.put.err)
 
 pub returns-in_err-put_slices-clause-err : goal.returns-in_err-put_slices-clause-err
 returns-in_err-put_slices-clause-err g c =
     let p = err_from_is_err_and c.from_residual-in_err-put_slices.result c.from_residual-in_err-put_slices.ensures.1 in
     let parts = parts_of c.args.self.now c.pictures-book.ensures.book c.args.ledger.now c.args.ends c.args.p (8 * c.args.total.now.bytes) c.account_before-account.result c.size-size.result c.zeros_behind-zeros.result c.requires.picture c.requires.ledger c.account_before-account.ensures.value c.size-size.ensures.value c.requires.place c.requires.begun c.zeros_behind-zeros.ensures.value c.zeros_behind-zeros.ensures.bytes in
     rw (p.1, p.2)
-    (put_then g.K.Sink.held g.K.Sink.faults _ _ _ _ _ _ (replicate {A = ℕ} (c.zeros_behind-zeros.result / 8) 0) _ c.put_headers.ensures.output.counts parts c.in_ok-put_headers.ensures.grown c.in_err-put_slices.ensures.err)
+    (put_then g.K.Sink.held g.K.Sink.faults _ _ _ _ _ _ (replicate {A = ℕ} (c.zeros_behind-zeros.result / 8) 0) _ c.put_headers.ensures.output.counts parts c.in_ok-put_headers.ensures.put.grown c.in_err-put_slices.ensures.put.err)
 
 pub returns-in_err-put_zeros-clause-err : goal.returns-in_err-put_zeros-clause-err
 returns-in_err-put_zeros-clause-err g c =
@@ -50,12 +50,12 @@ returns-in_err-put_zeros-clause-err g c =
     let tail = replicate {A = ℕ} (c.zeros_behind-zeros.result / 8) 0 in
     let counts : g.K.Sink.faults c.args.output.now ≤ g.K.Sink.faults c.put_slices.new.output = omega (arith, c.put_headers.ensures.output.counts, c.put_slices.ensures.output.counts) in
     rw (p.1, p.2)
-    (put_then g.K.Sink.held g.K.Sink.faults _ _ _ _ _ _ [] _ counts (parts_split _ head slices tail parts) (grows_on c.in_ok-put_headers.ensures.grown c.in_ok-put_slices.ensures.grown) c.in_err-put_zeros.ensures.err)
+    (put_then g.K.Sink.held g.K.Sink.faults _ _ _ _ _ _ [] _ counts (parts_split _ head slices tail parts) (grows_on c.in_ok-put_headers.ensures.put.grown c.in_ok-put_slices.ensures.put.grown) c.in_err-put_zeros.ensures.put.err)
 
 pub returns-clause-grown : goal.returns-clause-grown
 returns-clause-grown g c =
     let parts = parts_of c.args.self.now c.pictures-book.ensures.book c.args.ledger.now c.args.ends c.args.p (8 * c.args.total.now.bytes) c.account_before-account.result c.size-size.result c.zeros_behind-zeros.result c.requires.picture c.requires.ledger c.account_before-account.ensures.value c.size-size.ensures.value c.requires.place c.requires.begun c.zeros_behind-zeros.ensures.value c.zeros_behind-zeros.ensures.bytes in
-    grown_by _ _ _ _ (sym parts) (grows_on c.in_ok-put_headers.ensures.grown (grows_on c.in_ok-put_slices.ensures.grown c.in_ok-put_zeros.ensures.grown))
+    grown_by _ _ _ _ (sym parts) (grows_on c.in_ok-put_headers.ensures.put.grown (grows_on c.in_ok-put_slices.ensures.put.grown c.in_ok-put_zeros.ensures.put.grown))
 
 pub returns-clause-sent : goal.returns-clause-sent
 returns-clause-sent g c =

@@ -4,17 +4,15 @@ use Rattle.m2v_encode.proofs.done.DoneGroup.put_shown.Goals as goal
 
 pub returns-in-Ok : goal.returns-in-Ok
 returns-in-Ok g c = record {
-  grown = grows_untold _ _ (c.requires.unshown c.if-shown.false);
+  put = record { grown = grows_untold _ _ (c.requires.unshown c.if-shown.false); err = tt };
   anchor = c.in-Ok.ensures.value;
-  err = tt;
   recon = stays_here c.requires.recon;
 }
 
 pub returns-in-Err : goal.returns-in-Err
 unfolding PutStops
 returns-in-Err g c = record {
-  grown = tt;
+  put = record { grown = tt; err = grows_by_none _ };
   anchor = tt;
-  err = grows_by_none _;
   recon = stays_here c.requires.recon;
 }

@@ -9,16 +9,18 @@ use Rattle.m2v_encode.proofs.Puts.{put_then, put_same, grown_by}
 use Rattle.m2v_encode.proofs.PictureTexts.{slices_split, slices_more}
 use Rattle.m2v_encode.proofs.done.DoneGroup.put_slices.Goals as goal
 
-pub returns-in_err-put_text-clause-err : goal.returns-in_err-put_text-clause-err
-returns-in_err-put_text-clause-err g c =
+pub returns-in_err-put_text-clause-put : goal.returns-in_err-put_text-clause-put
+returns-in_err-put_text-clause-put g c =
     let p = err_from_is_err_and c.from_residual.result c.from_residual.ensures.1 in
     let inv = c.loop-r.invariant in
     let b = c.args.self.now in
     let text = ap packed (c.bytes.ensures ∙ ap (λ (x : CodedSlice). x.text) c.slice.ensures.value) in
     let split = slices_split b c.args.p c.loop-r.r (rows b - (c.loop-r.r + 1)) c.requires.picture (omega (arith, c.rows-r-end.ensures.value)) in
-    rw (p.1, p.2)
-    (put_then g.K.Sink.held g.K.Sink.faults _ _ _ _ _ _ split.0 _ inv.output.counts split.1 inv.grown
-    (put_same g.K.Sink.held g.K.Sink.faults _ _ _ _ _ (sym text) c.in_err-put_text.ensures.err))
+    rw (p.1, p.2) (record {
+      grown = tt;
+      err = put_then g.K.Sink.held g.K.Sink.faults _ _ _ _ _ _ split.0 _ inv.output.counts split.1 inv.grown
+          (put_same g.K.Sink.held g.K.Sink.faults _ _ _ _ _ (sym text) c.in_err-put_text.ensures.put.err);
+    })
 
 pub loop-r-preserved : goal.loop-r-preserved
 loop-r-preserved g c =
@@ -28,7 +30,7 @@ loop-r-preserved g c =
     record {
       grown = grown_by _ _ _ _
           (ap (λ (xs : List ℕ). packed (slices_text b c.args.p c.loop-r.r) ++ xs) text ∙ sym (slices_more b c.args.p c.loop-r.r c.requires.picture (omega (arith, c.rows-r-end.ensures.value))))
-          (grows_on inv.grown c.in_ok-put_text.ensures.grown);
+          (grows_on inv.grown c.in_ok-put_text.ensures.put.grown);
       output = stays_on inv.output c.put_text.ensures.output;
     }
 

@@ -53,7 +53,7 @@ returns-in_err-put_bytes-in-Ok-Some-clause-err g c =
     c.in-Ok.ensures.group c.in-Ok.ensures.code in
     rw (p.1, p.2)
     (end_put_by g.K.Sink.held g.K.Sink.faults g.N.Sink.held g.N.Sink.faults c.args.self.now c.code_last.new.self c.end.new.self (after_end c.args.queue.now) (handed c.in-Ok.last.group) _ _ _ _ _ _ _ c.end.ensures.value out.due out.is end_code
-    c.code_last.ensures.output.counts c.in_ok-code_last-in-Ok-Some.ensures.coded c.in_err-put_bytes-in-Ok-Some.ensures.err)
+    c.code_last.ensures.output.counts c.in_ok-code_last-in-Ok-Some.ensures.coded c.in_err-put_bytes-in-Ok-Some.ensures.put.err)
 
 pub returns-in_ok-put_bytes-in-Ok-Some-clause-coded : goal.returns-in_ok-put_bytes-in-Ok-Some-clause-coded
 returns-in_ok-put_bytes-in-Ok-Some-clause-coded g c =
@@ -62,7 +62,7 @@ returns-in_ok-put_bytes-in-Ok-Some-clause-coded g c =
     let out = group_out c.args.self.now.settings c.end.new.self c.next_group.new.self c.in-Ok-Some.group c.in-Ok.last ((rw is at h.due).0 refl) (rw is at h.frames) (rw is at h.pictures) (rw is at h.before) (rw is at h.rest)
     c.in-Ok.ensures.group c.in-Ok.ensures.code in
     end_all_by g.K.Sink.held g.K.Sink.faults g.N.Sink.held g.N.Sink.faults c.args.frames c.args.self.now c.code_last.new.self c.end.new.self (after_end c.args.queue.now) (handed c.in-Ok.last.group) _ _ _ _ _ _ _ c.end.ensures.value out.is end_code
-    c.in_ok-code_last-in-Ok-Some.ensures.coded c.in_ok-put_bytes-in-Ok-Some.ensures.grown refl
+    c.in_ok-code_last-in-Ok-Some.ensures.coded c.in_ok-put_bytes-in-Ok-Some.ensures.put.grown refl
 
 pub returns-in-Ok-None-clause-err : goal.returns-in-Ok-None-clause-err
 unfolding EndStops

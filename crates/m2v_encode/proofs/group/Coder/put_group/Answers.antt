@@ -20,7 +20,7 @@ pub returns-in_err-self-clause-err : goal.returns-in_err-self-clause-err
 returns-in_err-self-clause-err g c =
     let p = err_from_is_err_and c.from_residual-in_err-self.result c.from_residual-in_err-self.ensures.1 in
     rw (p.1, p.2)
-    (group_recon g.K.Sink.held g.K.Sink.faults g.N.Sink.held g.N.Sink.faults _ c.args.done _ _ _ _ _ _ c.in_ok-put_pictures.ensures.grown c.in_err-self.ensures.err)
+    (group_recon g.K.Sink.held g.K.Sink.faults g.N.Sink.held g.N.Sink.faults _ c.args.done _ _ _ _ _ _ c.in_ok-put_pictures.ensures.grown c.in_err-self.ensures.put.err)
 
 pub returns-clause-coded : goal.returns-clause-coded
 returns-clause-coded g c =
@@ -35,7 +35,7 @@ returns-clause-coded g c =
       kept = Some c.into_kept.result;
     } in
     coded_by c.args.self.now d c.args.done c.args.ends c.args.self.now.total c.ledger-self.result _ _ refl c.ledger-self.ensures.value
-    c.in_ok-put_pictures.ensures.grown c.in_ok-self.ensures.grown refl refl c.in_ok-self.ensures.anchor
+    c.in_ok-put_pictures.ensures.grown c.in_ok-self.ensures.put.grown refl refl c.in_ok-self.ensures.anchor
     c.in_ok-put_pictures.ensures.frames c.in_ok-put_pictures.ensures.pictures c.in_ok-put_pictures.ensures.bytes c.in_ok-put_pictures.ensures.stuffing
 
 pub returns-clause-place : goal.returns-clause-place
