@@ -8,9 +8,18 @@ use Rattle.m2v_y4m.specs.declared.answer.Y4mKind.{Y4mKind}
 use Rattle.m2v_y4m.specs.declared.answer.Y4mKind.TheVariants.{Magic, Line, Field, Size, Rate, Interlace, Chroma, Frame}
 use Rattle.m2v_y4m.specs.declared.header.Y4mHeader.{Y4mHeader}
 use Rattle.m2v_y4m.specs.Texts.{onward}
-pub use Rattle.m2v_y4m.specs.declared.reader.Standing.{Standing}
-pub use Rattle.m2v_y4m.specs.Texts.{most_ahead}
 use Rattle.m2v_y4m.specs.Frames.{Coming, broken, with_front, in_frame, frames_from, size_of, Begins}
+
+-- What is known of the text behind its header line: the header; the bytes that were read and not given yet, and the place
+-- of the first; how many bytes of the frame at hand are still to come, 0 before a frame line, and the place of its line;
+-- and the fault, once a frame line broke the text.
+pub record Standing : Type 0 where
+  pub header : Y4mHeader
+  pub unread : List ℕ
+  pub place : ℕ
+  pub rest : ℕ
+  pub line : ℕ
+  pub fault : Option Y4mFault
 
 -- what comes of the bytes that weren't given yet, where no fault was found so far
 unfoldable pub coming_at : ℕ → ℕ → ℕ → ℕ → List ℕ → Coming
@@ -64,6 +73,10 @@ told_left s left = option_map left_of (comes_of s left)
 pub record Reading : Type 0 where
   pub at : Standing
   pub failed : ℕ
+
+-- how many bytes are read ahead at most
+abbrev pub most_ahead : ℕ
+most_ahead = 4096
 
 -- Bytes went from the front of what was left, no more than are read ahead.
 pub record Took (old new : Option (List ℕ)) : Type 0 where

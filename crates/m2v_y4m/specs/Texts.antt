@@ -35,7 +35,3 @@ number_of most text =
 -- the place so many bytes further on; places are counted up to 2 ^ 64 - 1
 abbrev pub onward : ℕ → ℕ → ℕ
 onward place n = min (place + n) (2 ^ 64 - 1)
-
--- how many bytes are read ahead at most
-abbrev pub most_ahead : ℕ
-most_ahead = 4096

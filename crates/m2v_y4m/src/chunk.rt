@@ -1,6 +1,6 @@
 ghost use Rattle.std.specs.Prelude.{◌≡◌, ◌+◌, ◌-◌, ◌<◌, ◌≤◌, ◌++◌, [], length, take, drop, IfOk, OnErr, IsErrOf, Ok};
 ghost use Rattle.m2v_port.specs.Port.{Rose, Moves, IsAtEnd};
-ghost use Rattle.m2v_y4m.specs.Texts.{most_ahead};
+ghost use Rattle.m2v_y4m.specs.Sources.{most_ahead};
 ghost use Rattle.m2v_y4m.specs.Reading.{Refilled};
 
 use m2v_port::{Memory, PortError, Source};
@@ -20,7 +20,7 @@ pub(crate) struct Chunk {
 
 impl Model for Chunk {
     ghost use Rattle.std.specs.Prelude.{◌≡◌, List, ℕ, ◌≤◌, length, drop, take};
-    ghost use Rattle.m2v_y4m.specs.Texts.{most_ahead};
+    ghost use Rattle.m2v_y4m.specs.Sources.{most_ahead};
 
     ghost Value = { List ℕ };
 

@@ -21,41 +21,37 @@ use std::marker::Model;
 /// The most bytes of a line, with its newline.
 const LINE: usize = 1024;
 
-/// What is known of the text behind its header line.
-#[derive(Drop)]
-pub(crate) struct Standing {
-    pub(crate) header: Y4mHeader,
-    /// The bytes that were read and not given yet.
-    pub(crate) unread: Chunk,
-    /// The place of the first of them.
-    pub(crate) place: u64,
-    /// How many bytes of the frame at hand are still to come, 0 before a frame line.
-    pub(crate) rest: usize,
-    /// The place of its line.
-    pub(crate) line: u64,
-    /// The fault, once a frame line broke the text.
-    pub(crate) fault: Option<Y4mFault>,
-}
-
 /// What was read of a text, as far as it matters for what comes.
 #[derive(Drop)]
 pub(crate) struct Reader {
-    at: Standing,
+    header: Y4mHeader,
     size: usize,
+    chunk: Chunk,
+    place: u64,
+    rest: usize,
+    line: u64,
+    fault: Option<Y4mFault>,
 }
 
 impl Model for Reader {
     ghost use Rattle.std.specs.Prelude.{◌≡◌, ◌≤◌};
-    ghost use Rattle.m2v_y4m.specs.declared.reader.Standing.{Standing};
     ghost use Rattle.m2v_y4m.specs.Frames.{size_of};
     ghost use Rattle.m2v_y4m.specs.Rules.{IsHeader};
+    ghost use Rattle.m2v_y4m.specs.Sources.{Standing};
 
     ghost Value = { Standing };
 
-    ghost view = { λ r. r.at };
+    ghost view = { λ r. record {
+      header = r.header;
+      unread = r.chunk;
+      place = r.place;
+      rest = r.rest;
+      line = r.line;
+      fault = r.fault;
+    } };
 
-    ghost invariant = { λ r. IsHeader r.at.header × (r.size ≡ size_of r.at.header)
-        × (r.at.rest ≤ r.size) };
+    ghost invariant = { λ r. IsHeader r.header × (r.size ≡ size_of r.header)
+        × (r.rest ≤ r.size) };
 }
 
 /// Reads on until the bytes of a longest line are there, or the text ends.
@@ -133,15 +129,13 @@ impl Reader {
                 let mut chunk = chunk;
                 chunk.pass(opening.length);
                 Ok(Reader {
-                    at: Standing {
-                        header: opening.header,
-                        unread: chunk,
-                        place: opening.length as u64,
-                        rest: 0,
-                        line: 0,
-                        fault: None,
-                    },
+                    header: opening.header,
                     size: frame_size(&opening.header),
+                    chunk,
+                    place: opening.length as u64,
+                    rest: 0,
+                    line: 0,
+                    fault: None,
                 })
             }
             Err(fault) => Err(fault),
@@ -155,14 +149,14 @@ impl Reader {
         ensures ahead { length self.now.unread ≤ most_ahead }
     {
         let _ahead = self.ahead();
-        &self.at.header
+        &self.header
     }
 
     /// The fault of the frame line that broke the text, once it was found.
     pub(crate) fn fault(&self) -> Option<Y4mFault>
         ensures value { result ≡ self.now.fault }
     {
-        self.at.fault
+        self.fault
     }
 
     /// The bytes of a raw frame.
@@ -171,7 +165,7 @@ impl Reader {
         ensures some { 1 ≤ result }
         ensures most { result ≤ 3317760 }
     {
-        let _size = frame_size(&self.at.header);
+        let _size = frame_size(&self.header);
         self.size
     }
 
@@ -180,7 +174,7 @@ impl Reader {
         ensures value { result ≡ length self.now.unread }
         ensures most { result ≤ most_ahead }
     {
-        self.at.unread.len()
+        self.chunk.len()
     }
 
     /// The text is broken here.
@@ -191,7 +185,7 @@ impl Reader {
               (record { kind = kind; place = place });
         } }
     {
-        self.at.fault = Some(Y4mFault { kind, place });
+        self.fault = Some(Y4mFault { kind, place });
         PortError::Failed
     }
 
@@ -200,7 +194,7 @@ impl Reader {
         ensures none { IsTrue result → self.now.unread ≡ [] }
         ensures some { IsFalse result → 1 ≤ length self.now.unread }
     {
-        self.at.unread.len() == 0
+        self.chunk.len() == 0
     }
 
     /// Reads on until the bytes of a longest line are there, or the text ends.
@@ -216,7 +210,7 @@ impl Reader {
         ensures faults { S.faults inner.old ≤ S.faults inner.new }
         ensures lenders { S.lenders inner.new ≡ S.lenders inner.old }
     {
-        gather(&mut self.at.unread, inner)
+        gather(&mut self.chunk, inner)
     }
 
     /// Takes the frame line that was read ahead.
@@ -226,16 +220,16 @@ impl Reader {
         ensures failed { IfErr result (λ e. e ≡ PortError.Failed) }
         ensures some { 1 ≤ size_of self.old.header }
     {
-        let _size = frame_size(&self.at.header);
-        match frame_line(self.at.unread.bytes()) {
+        let _size = frame_size(&self.header);
+        match frame_line(self.chunk.bytes()) {
             Ok(length) => {
-                self.at.unread.pass(length);
-                self.at.line = self.at.place;
-                self.at.place = self.at.place.saturating_add(length as u64);
-                self.at.rest = self.size;
+                self.chunk.pass(length);
+                self.line = self.place;
+                self.place = self.place.saturating_add(length as u64);
+                self.rest = self.size;
                 Ok(())
             }
-            Err(kind) => Err(self.break_at(kind, self.at.place)),
+            Err(kind) => Err(self.break_at(kind, self.place)),
         }
     }
 
@@ -253,9 +247,9 @@ impl Reader {
         ensures failed { IfErr result (λ e. e ≡ PortError.Failed) }
         ensures some { 1 ≤ size_of self.old.header }
     {
-        let _size = frame_size(&self.at.header);
-        if self.at.rest == self.size {
-            return Err(self.break_at(Y4mKind::Frame, self.at.line));
+        let _size = frame_size(&self.header);
+        if self.rest == self.size {
+            return Err(self.break_at(Y4mKind::Frame, self.line));
         }
         Ok(0)
     }
@@ -267,8 +261,8 @@ impl Reader {
         ensures value { self.new
             ≡ record self.old { rest = self.old.rest - n; place = onward self.old.place n } }
     {
-        self.at.rest -= n;
-        self.at.place = self.at.place.saturating_add(n as u64);
+        self.rest -= n;
+        self.place = self.place.saturating_add(n as u64);
     }
 
     /// Gives bytes of the frame that were read ahead.
@@ -289,9 +283,9 @@ impl Reader {
               place = onward self.old.place result;
             } }
     {
-        let n = buf.len().min(self.at.rest).min(self.at.unread.len());
-        buf[..n].copy_from_slice(&self.at.unread.bytes()[..n]);
-        self.at.unread.pass(n);
+        let n = buf.len().min(self.rest).min(self.chunk.len());
+        buf[..n].copy_from_slice(&self.chunk.bytes()[..n]);
+        self.chunk.pass(n);
         self.advance(n);
         n
     }
@@ -322,7 +316,7 @@ impl Reader {
         if !self.is_drained() {
             return Ok(self.give_held(buf));
         }
-        let n = read_part(inner, buf, self.at.rest)?;
+        let n = read_part(inner, buf, self.rest)?;
         if n == 0 {
             return self.end_inside();
         }
@@ -348,7 +342,7 @@ impl Reader {
         ensures faults { S.faults inner.old ≤ S.faults inner.new }
         ensures lenders { S.lenders inner.new ≡ S.lenders inner.old }
     {
-        if self.at.rest > 0 {
+        if self.rest > 0 {
             return Ok(true);
         }
         self.look_ahead(inner)?;
@@ -393,7 +387,7 @@ impl Reader {
         ensures faults { S.faults inner.old ≤ S.faults inner.new }
         ensures lenders { S.lenders inner.new ≡ S.lenders inner.old }
     {
-        if self.at.fault.is_some() {
+        if self.fault.is_some() {
             return Err(PortError::Failed);
         }
         if buf.len() == 0 {
