@@ -12,7 +12,7 @@ use Rattle.m2v_model.proofs.ShiftLaws.{BeginsPiece, NoEnds}
 use Rattle.m2v_law_group.specs.Groups.{is_picture, is_sequence, is_group, has_picture, has_sequence, group_headers, to_end, from_last_sequence, up_to_piece, before_group, from_group}
 use Rattle.m2v_cut.specs.Answers.{units_of, groups_of, of_pieces}
 use Rattle.m2v_cut.specs.Progress.{bytes_of, all_bytes, all_groups, are_some}
-use Rattle.m2v_cut.proofs.Shapes.{has_begin, IsPictured, Shape, AreEnds, Split, Splits}
+use Rattle.m2v_cut.proofs.Shapes.{has_begin, IsPictured, Shape, AreEnds, Follows, Split, Splits}
 
 -- ---- units without an end code
 
@@ -59,8 +59,17 @@ pub record Before (first others : List (List ℕ)) (us : Units) : Type 0 where
   pub front : Units
   pub behind : Units
   pub is : us ≡ front ++ behind
+  pub whole : of_pieces first ≡ joined front
+  pub own : Splits first front
   pub fulls : Fulls first front
   pub splits : Splits others behind
+
+-- a piece before others and others behind it
+split_on : (p q : List ℕ) (qs ps : List (List ℕ)) (us rest front : Units) → (s : Split p (q ∷ qs) us rest) → Follows ps (s.shape).tail s.ends → Split p ps (s.vs ++ front) front
+split_on p q qs ps us rest front s f = record { own = s.own; is = refl; follows = f }
+
+split_whole : (p q : List ℕ) (qs : List (List ℕ)) (us rest : Units) → (s : Split p (q ∷ qs) us rest) → p ≡ joined s.vs
+split_whole p q qs us rest s = s.whole ∙ ap (λ (e : Units). joined (s.vs ++ e)) s.follows.1 ∙ ap joined (append-nil s.vs)
 
 split_full : (p q : List ℕ) (qs : List (List ℕ)) (us rest front : Units) → (s : Split p (q ∷ qs) us rest) → Full p (s.vs ++ front) front
 split_full p q qs us rest front s = record {
@@ -68,16 +77,24 @@ split_full p q qs us rest front s = record {
   is = refl;
   units = split_units p (q ∷ qs) us rest s;
   bytes = split_bytes p (q ∷ qs) us rest s;
-  whole = s.whole ∙ ap (λ (e : Units). joined (s.vs ++ e)) s.follows.1 ∙ ap joined (append-nil s.vs);
+  whole = split_whole p q qs us rest s;
   full = record { shape = s.shape; some = s.follows.0 };
   begins = s.begins;
 }
 
 pub before_split : (first : List (List ℕ)) (q : List ℕ) (qs : List (List ℕ)) (us : Units) → Splits (first ++ q ∷ qs) us → Before first (q ∷ qs) us
-before_split [] q qs us s = record { front = []; behind = us; is = refl; fulls = refl; splits = s }
+before_split [] q qs us s = record { front = []; behind = us; is = refl; whole = refl; own = refl; fulls = refl; splits = s }
 before_split (p ∷ []) q qs us s =
     let one : Split p (q ∷ qs) us s.0 = s.1 in
-    record { front = one.vs ++ []; behind = s.0; is = one.is ∙ ap (λ (l : Units). l ++ s.0) (sym (append-nil one.vs)); fulls = ([], split_full p q qs us s.0 [] one, refl); splits = s.2 }
+    record {
+      front = one.vs ++ [];
+      behind = s.0;
+      is = one.is ∙ ap (λ (l : Units). l ++ s.0) (sym (append-nil one.vs));
+      whole = append-nil p ∙ split_whole p q qs us s.0 one ∙ ap joined (sym (append-nil one.vs));
+      own = ([], split_on p q qs [] us s.0 [] one tt, refl);
+      fulls = ([], split_full p q qs us s.0 [] one, refl);
+      splits = s.2;
+    }
 before_split (p ∷ r ∷ first) q qs us s =
     let one : Split p (r ∷ (first ++ q ∷ qs)) us s.0 = s.1 in
     let more = before_split (r ∷ first) q qs s.0 s.2 in
@@ -85,6 +102,8 @@ before_split (p ∷ r ∷ first) q qs us s =
       front = one.vs ++ more.front;
       behind = more.behind;
       is = one.is ∙ ap (λ (l : Units). one.vs ++ l) more.is ∙ sym (append_assoc one.vs more.front more.behind);
+      whole = (λ i. split_whole p r (first ++ q ∷ qs) us s.0 one i ++ more.whole i) ∙ sym (joined-append one.vs more.front);
+      own = (more.front, split_on p r (first ++ q ∷ qs) (r ∷ first) us s.0 more.front one one.follows, more.own);
       fulls = (more.front, split_full p r (first ++ q ∷ qs) us s.0 more.front one, more.fulls);
       splits = more.splits;
     }

@@ -20,7 +20,7 @@ use Rattle.m2v_cut.specs.declared.find.Found.{Found}
 use Rattle.m2v_cut.specs.declared.start.Start.{Start}
 use Rattle.m2v_cut.specs.declared.look.FirstPicture.{FirstPicture}
 use Rattle.m2v_cut.specs.Answers.{groups_of, first_picture, has_intra, copied, of_pieces, IsPart}
-use Rattle.m2v_cut.specs.Progress.{Reached, Progress, IsFound, Led, Onward, ReadOn, head_of, all_bytes, all_groups, are_some}
+use Rattle.m2v_cut.specs.Progress.{Reached, Progress, HasGroup, IsFound, Led, Onward, ReadOn, head_of, all_bytes, all_groups, are_some}
 use Rattle.m2v_cut.specs.Starts.{IsStart, is_intra_frame, cut_place}
 use Rattle.m2v_cut.proofs.Shapes.{Split, Splits, begins_sequence}
 use Rattle.m2v_cut.proofs.Fulls.{split_groups, headers-append}
@@ -88,11 +88,8 @@ copied_here t from n count first w read mids start second sequence s few number 
 
 -- the piece of a group was found in a text, and these were read behind it
 pub record Here (from taken : ℕ) (text : List ℕ) (f : Found) (read later : List (List ℕ)) : Type 0 where
-  pub first : List (List ℕ)
-  pub few : all_groups first ≤ from
-  pub number : f.number ≡ from - all_groups first
-  pub here : f.number < groups_of (whole_of f.piece)
-  pub behind : f.behind ≡ are_some first
+  pub group : HasGroup from f
+  pub open group use *
   pub are : pieces text ≡ (first ++ whole_of f.piece ∷ read) ++ later
   pub fit : AllFit (start_of text) (first ++ whole_of f.piece ∷ read)
   pub low : start_of text ≤ most_input
@@ -117,11 +114,7 @@ here_at from left new c c' f read found on rest e =
     let from_here = start_place c (on.bytes ++ rest) found.begun in
     subst (λ (t : List ℕ). (h : Here from (length (so.bytes ++ on.bytes)) t f read (left_of c' rest)) × (start_of_rest c' rest ≡ end_of (start_of t) (h.first ++ w ∷ read))) (sym (append_assoc so.bytes on.bytes rest)) (
       record {
-        first = found.first;
-        few = found.few;
-        number = found.number;
-        here = found.here;
-        behind = found.behind;
+        group = found.group;
         are = x.are ∙ ap (λ (ps : List (List ℕ)). ps ++ left_of c' rest) all;
         fit = subst (AllFit (start_of text)) all x.fit;
         low = omega (arith, ends_behind (start_of text) (found.first ++ w ∷ []), r.place, from_here, found.most);
@@ -137,11 +130,7 @@ here_of from left new c c' f read found on rest e = (here_at from left new c c' 
 
 here_later : (from taken more : ℕ) (text other : List ℕ) (f : Found) (read later : List (List ℕ)) → text ≡ other → taken ≤ more → Here from taken text f read later → Here from more other f read later
 here_later from taken more text other f read later e le h = subst (λ (t : List ℕ). Here from more t f read later) e (record {
-  first = h.first;
-  few = h.few;
-  number = h.number;
-  here = h.here;
-  behind = h.behind;
+  group = h.group;
   are = h.are;
   fit = h.fit;
   low = h.low;

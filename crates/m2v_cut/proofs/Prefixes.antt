@@ -13,7 +13,8 @@ use Rattle.m2v_model.proofs.ShiftLaws.{BeginsPiece, NoEnds}
 use Rattle.m2v_model.proofs.PieceLaws.{value_code, sequence_goes}
 use Rattle.m2v_law_group.specs.Groups.{is_sequence, from_sequence, to_end, stream_units}
 use Rattle.m2v_cut.specs.Answers.{of_pieces}
-use Rattle.m2v_cut.proofs.Shapes.{Shape, Split, Splits, Follows, BeginsSequence, pieces_split, begins_sequence}
+use Rattle.m2v_cut.proofs.Shapes.{Shape, Splits, BeginsSequence, pieces_split, begins_sequence}
+use Rattle.m2v_cut.proofs.Fulls.{before_split}
 
 -- ---- units up to the end code, and that code
 
@@ -167,53 +168,6 @@ stream_all text =
 
 -- ---- the first pieces
 
-pub record Fronts (first : List (List ℕ)) (us : Units) : Type 0 where
-  pub front : Units
-  pub behind : Units
-  pub is : us ≡ front ++ behind
-  pub splits : Splits first front
-  pub whole : of_pieces first ≡ joined front
-
-split_on : (p q : List ℕ) (qs ps : List (List ℕ)) (us rest front : Units) → (s : Split p (q ∷ qs) us rest) → Follows ps (s.shape).tail s.ends → Split p ps (s.vs ++ front) front
-split_on p q qs ps us rest front s f = record {
-  vs = s.vs;
-  ends = s.ends;
-  is = refl;
-  units = s.units;
-  whole = s.whole;
-  no_ends = s.no_ends;
-  at_end = s.at_end;
-  shape = s.shape;
-  follows = f;
-  apart = s.apart;
-  begins = s.begins;
-}
-
-split_whole : (p q : List ℕ) (qs : List (List ℕ)) (us rest : Units) → (s : Split p (q ∷ qs) us rest) → p ≡ joined s.vs
-split_whole p q qs us rest s = s.whole ∙ ap (λ (e : Units). joined (s.vs ++ e)) s.follows.1 ∙ ap joined (append-nil s.vs)
-
-pub splits_front : (first : List (List ℕ)) (q : List ℕ) (qs : List (List ℕ)) (us : Units) → Splits (first ++ q ∷ qs) us → Fronts first us
-splits_front [] q qs us s = record { front = []; behind = us; is = refl; splits = refl; whole = refl }
-splits_front (p ∷ []) q qs us s =
-    let one : Split p (q ∷ qs) us s.0 = s.1 in
-    record {
-      front = one.vs ++ [];
-      behind = s.0;
-      is = one.is ∙ ap (λ (l : Units). l ++ s.0) (sym (append-nil one.vs));
-      splits = ([], split_on p q qs [] us s.0 [] one tt, refl);
-      whole = append-nil p ∙ split_whole p q qs us s.0 one ∙ ap joined (sym (append-nil one.vs));
-    }
-splits_front (p ∷ r ∷ first) q qs us s =
-    let one : Split p (r ∷ (first ++ q ∷ qs)) us s.0 = s.1 in
-    let more = splits_front (r ∷ first) q qs s.0 s.2 in
-    record {
-      front = one.vs ++ more.front;
-      behind = more.behind;
-      is = one.is ∙ ap (λ (l : Units). one.vs ++ l) more.is ∙ sym (append_assoc one.vs more.front more.behind);
-      splits = (more.front, split_on p r (first ++ q ∷ qs) (r ∷ first) us s.0 more.front one one.follows, more.splits);
-      whole = (λ i. split_whole p r (first ++ q ∷ qs) us s.0 one i ++ more.whole i) ∙ sym (joined-append one.vs more.front);
-    }
-
 -- the first pieces of a text are those of the text that they make
 pub first_splits : (text : List ℕ) (first others : List (List ℕ)) → pieces text ≡ first ++ others → Splits first (stream_units (of_pieces first))
 first_splits text first [] e =
@@ -222,9 +176,9 @@ first_splits text first [] e =
     (subst (Splits (pieces text)) (sym (stream_all text)) (pieces_split text))
 first_splits text first (q ∷ qs) e =
     let s : Splits (first ++ q ∷ qs) (stream_units text) = subst (λ (ps : List (List ℕ)). Splits ps (stream_units text)) e (pieces_split text) in
-    let f = splits_front first q qs (stream_units text) s in
+    let f = before_split first q qs (stream_units text) s in
     let are : AreUnits f.front = are_before f.front f.behind (subst AreUnits f.is (are_stream text)) in
     let b : BeginsSequence f.front = begins_front f.front f.behind (subst BeginsSequence f.is (begins_sequence text)) in
     let none : NoEnds f.front = none_before f.front f.behind (subst NoEnds f.is (ended (from_sequence (cut 0 text).1)).none) in
     let is : stream_units (of_pieces first) ≡ f.front = ap stream_units f.whole ∙ stream_joined f.front are b none in
-    subst (Splits first) (sym is) f.splits
+    subst (Splits first) (sym is) f.own

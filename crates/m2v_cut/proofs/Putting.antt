@@ -1,51 +1,26 @@
--- Bytes that are written one part after another.
+-- Parts of pieces that are written.
 use Rattle.std.proofs.Common.{◌≡◌, ℕ, zero, suc, ◌+◌, ◌-◌, ◌<◌, ◌≤◌, Bool, true, false, List, [], ◌∷◌, ◌++◌, length, take, drop, replicate, min, max, Option, Some, None, refl, sym, ap, subst, ◌∙◌, append_assoc, inl, inr, arith}
 use Rattle.std.specs.Prelude.{slice_index, vec_len}
 use Rattle.std.proofs.lemmas.Bool.{cases_lt}
-use Rattle.std.proofs.lemmas.List.{append-nil, length-append, take-append-le, drop-append-le, take-replicate, drop-replicate, length-replicate, replicate-append-replicate, take_all, drop_all, length-drop}
+use Rattle.std.proofs.lemmas.List.{append-nil, length-append, take-append-le, drop-append-le, take-replicate, drop-replicate, length-replicate, take_all, drop_all, length-drop}
 use Rattle.m2v_port.specs.Ends.{Change, change}
-use Rattle.m2v_port.specs.Port.{Grows, GrowsByPrefix}
-use Rattle.m2v_port.proofs.Runs.{rose_since, grows_on, prefix_on, prefix_of_more}
+use Rattle.m2v_port.specs.Port.{Grows}
+use Rattle.m2v_port.specs.declared.error.PortError.{PortError}
+use Rattle.m2v_port.specs.declared.error.PortError.TheVariants as ports
+use Rattle.m2v_port.proofs.Runs.{grows_on}
+use Rattle.m2v_dec_piece.specs.Putting.{PutStops, named}
+use Rattle.m2v_dec_piece.proofs.PutLaws.{stops_more, stops_on}
 use Rattle.m2v_decode.specs.m2v_dec_piece.declared.answer.Piece.{Piece}
 use Rattle.m2v_decode.specs.m2v_dec_piece.Sound.{IsSoundPiece}
 use Rattle.m2v_decode.specs.Decoding.{whole_of}
-use Rattle.m2v_cut.specs.declared.answer.CutError.{CutError}
-use Rattle.m2v_cut.specs.declared.answer.CutError.TheVariants as errors
 use Rattle.m2v_law_group.specs.Groups.{with_broken_link}
+use Rattle.m2v_cut.specs.declared.answer.CutError.TheVariants as errors
 use Rattle.m2v_cut.specs.Progress.{Cuts, part, head_of}
 
--- The output's states are o0, o1 and so on.
-module _ {K : Type 0} (held : K → Option (List ℕ)) (output_faults : K → ℕ) where
-  abbrev output : K → K → Change
-  output = change held output_faults
-
-  -- more was to be written
-  pub cuts_more : (o0 o1 : K) (bytes more : List ℕ) (e : CutError) → Cuts bytes (output o0 o1) e → Cuts (bytes ++ more) (output o0 o1) e
-  cuts_more o0 o1 bytes more errors.Write cut = (cut.0, prefix_of_more cut.1 more)
-  cuts_more o0 o1 bytes more errors.Memory cut = prefix_of_more cut more
-  cuts_more o0 o1 bytes more _ cut = absurd cut
-
-  -- some was written before
-  pub cuts_on : (o0 o1 o2 : K) (bytes more : List ℕ) (e : CutError) → output_faults o0 ≤ output_faults o1 → Grows (held o0) bytes (held o1) → Cuts more (output o1 o2) e → Cuts (bytes ++ more) (output o0 o2) e
-  cuts_on o0 o1 o2 bytes more errors.Write le grown cut = (rose_since le cut.0, prefix_on grown cut.1)
-  cuts_on o0 o1 o2 bytes more errors.Memory le grown cut = prefix_on grown cut
-  cuts_on o0 o1 o2 bytes more _ le grown cut = absurd cut
-
-  -- zero bytes, of which some were written
-  pub zeros_on : (o0 o1 o2 : K) (zeros left n : ℕ) → n ≤ left → left ≤ zeros → Grows (held o0) (replicate (zeros - left) 0) (held o1) → Grows (held o1) (replicate n 0) (held o2) → Grows (held o0) (replicate (zeros - (left - n)) 0) (held o2)
-  zeros_on o0 o1 o2 zeros left n le less grown next =
-      let e : (zeros - left) + n ≡ zeros - (left - n) = omega arith in
-      subst (λ (b : List ℕ). Grows (held o0) b (held o2)) (replicate-append-replicate (zeros - left) n 0 ∙ ap (λ (k : ℕ). replicate k 0) e) (grows_on grown next)
-
-  pub zeros_cut : (o0 o1 o2 : K) (zeros left n : ℕ) (e : CutError) → n ≤ left → left ≤ zeros → output_faults o0 ≤ output_faults o1 → Grows (held o0) (replicate (zeros - left) 0) (held o1) → Cuts (replicate n 0) (output o1 o2) e → Cuts (replicate zeros 0) (output o0 o2) e
-  zeros_cut o0 o1 o2 zeros left n e le less faults grown cut =
-      let q : ((zeros - left) + n) + (left - n) ≡ zeros = omega arith in
-      subst (λ (b : List ℕ). Cuts b (output o0 o2) e) (replicate-append-replicate ((zeros - left) + n) (left - n) 0 ∙ ap (λ (k : ℕ). replicate k 0) q)
-      (cuts_more o0 o2 (replicate ((zeros - left) + n) 0) (replicate (left - n) 0) e
-      (subst (λ (b : List ℕ). Cuts b (output o0 o2) e) (replicate-append-replicate (zeros - left) n 0) (cuts_on o0 o1 o2 (replicate (zeros - left) 0) (replicate n 0) e faults grown cut)))
-
-pub of_buffer : (n most : ℕ) → n ≤ most → take {A = ℕ} n (replicate most 0) ≡ replicate n 0
-of_buffer n most le = take-replicate n most 0 le
+-- by one's own error
+pub cuts_named : (bytes : List ℕ) (held : Change) (e : PortError) → PutStops bytes held e → Cuts bytes held (named e errors.Write errors.Memory)
+cuts_named bytes held ports.Failed stops = (stops.failed refl, stops.grown)
+cuts_named bytes held ports.Memory stops = stops.grown
 
 -- ---- a part of bytes with zero bytes behind them
 
@@ -112,22 +87,22 @@ rest_part from whole = take_all (length whole - from) (drop from whole) (omega (
 
 module _ {K : Type 0} (held : K → Option (List ℕ)) (output_faults : K → ℕ) where
   -- the byte wasn't written
-  pub byte_cut : (o0 o1 o2 : K) (whole : List ℕ) (sequence header : ℕ) (behind : Bool) (byte : ℕ) (e : CutError) → behind ≡ true → byte ≡ with_broken_link (slice_index whole (header + 7)) → output_faults o0 ≤ output_faults o1
-      → Grows (held o0) (part sequence (header + 7) whole) (held o1) → Cuts (byte ∷ []) (change held output_faults o1 o2) e → Cuts (head_of whole sequence header behind) (change held output_faults o0 o2) e
-  byte_cut o0 o1 o2 whole sequence header behind byte e on is le grown cut =
+  pub byte_stops : (o0 o1 o2 : K) (whole : List ℕ) (sequence header : ℕ) (behind : Bool) (byte : ℕ) (e : PortError) → behind ≡ true → byte ≡ with_broken_link (slice_index whole (header + 7)) → output_faults o0 ≤ output_faults o1
+      → Grows (held o0) (part sequence (header + 7) whole) (held o1) → PutStops (byte ∷ []) (change held output_faults o1 o2) e → PutStops (head_of whole sequence header behind) (change held output_faults o0 o2) e
+  byte_stops o0 o1 o2 whole sequence header behind byte e on is le grown stops =
       let front : List ℕ = part sequence (header + 7) whole in
       let rest : List ℕ = drop (header + 8) whole in
       let all : (front ++ byte ∷ []) ++ rest ≡ head_of whole sequence header behind = append_assoc front (byte ∷ []) rest ∙ ap (λ (b : ℕ). front ++ b ∷ rest) is ∙ rw on refl in
-      subst (λ (b : List ℕ). Cuts b (change held output_faults o0 o2) e) all
-      (cuts_more held output_faults o0 o2 (front ++ byte ∷ []) rest e (cuts_on held output_faults o0 o1 o2 front (byte ∷ []) e le grown cut))
+      subst (λ (b : List ℕ). PutStops b (change held output_faults o0 o2) e) all
+      (stops_more held output_faults o0 o2 (front ++ byte ∷ []) rest e (stops_on held output_faults o0 o1 o2 front (byte ∷ []) e le grown stops))
 
   -- the bytes behind it weren't written whole
-  pub rest_cut : (o0 o1 o2 o3 : K) (whole : List ℕ) (sequence header end : ℕ) (behind : Bool) (byte : ℕ) (e : CutError) → behind ≡ true → byte ≡ with_broken_link (slice_index whole (header + 7)) → end ≡ length whole → output_faults o0 ≤ output_faults o2
-      → Grows (held o0) (part sequence (header + 7) whole) (held o1) → Grows (held o1) (byte ∷ []) (held o2) → Cuts (part (header + 8) end whole) (change held output_faults o2 o3) e → Cuts (head_of whole sequence header behind) (change held output_faults o0 o3) e
-  rest_cut o0 o1 o2 o3 whole sequence header end behind byte e on is length_is le grown next cut =
+  pub rest_stops : (o0 o1 o2 o3 : K) (whole : List ℕ) (sequence header end : ℕ) (behind : Bool) (byte : ℕ) (e : PortError) → behind ≡ true → byte ≡ with_broken_link (slice_index whole (header + 7)) → end ≡ length whole → output_faults o0 ≤ output_faults o2
+      → Grows (held o0) (part sequence (header + 7) whole) (held o1) → Grows (held o1) (byte ∷ []) (held o2) → PutStops (part (header + 8) end whole) (change held output_faults o2 o3) e → PutStops (head_of whole sequence header behind) (change held output_faults o0 o3) e
+  rest_stops o0 o1 o2 o3 whole sequence header end behind byte e on is length_is le grown next stops =
       let front : List ℕ = part sequence (header + 7) whole in
       let rest : List ℕ = drop (header + 8) whole in
       let all : (front ++ byte ∷ []) ++ rest ≡ head_of whole sequence header behind = append_assoc front (byte ∷ []) rest ∙ ap (λ (b : ℕ). front ++ b ∷ rest) is ∙ rw on refl in
-      subst (λ (b : List ℕ). Cuts b (change held output_faults o0 o3) e) all
-      (cuts_on held output_faults o0 o2 o3 (front ++ byte ∷ []) rest e le (grows_on grown next)
-      (subst (λ (b : List ℕ). Cuts b (change held output_faults o2 o3) e) (ap (λ (n : ℕ). part (header + 8) n whole) length_is ∙ rest_part (header + 8) whole) cut))
+      subst (λ (b : List ℕ). PutStops b (change held output_faults o0 o3) e) all
+      (stops_on held output_faults o0 o2 o3 (front ++ byte ∷ []) rest e le (grows_on grown next)
+      (subst (λ (b : List ℕ). PutStops b (change held output_faults o2 o3) e) (ap (λ (n : ℕ). part (header + 8) n whole) length_is ∙ rest_part (header + 8) whole) stops))

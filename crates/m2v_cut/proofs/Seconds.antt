@@ -87,7 +87,7 @@ second_passes : (text : List ℕ) (from count taken place : ℕ) (held : Change)
     → place ≡ end_of (start_of text) (h.first ++ whole_of f.piece ∷ []) → Passes place l later → held.new ≡ held.old → IsOver text from count held (error_of l)
 second_passes text from count taken place held f later start l one h is field at p same =
     second_over text from count taken held f p.whole p.others start l one
-    (record { first = h.first; few = h.few; number = h.number; here = h.here; behind = h.behind; are = h.are ∙ ap (λ (ps : List (List ℕ)). (h.first ++ whole_of f.piece ∷ []) ++ ps) p.are; fit = h.fit; low = h.low; within = h.within; place = h.place })
+    (record { group = h.group; are = h.are ∙ ap (λ (ps : List (List ℕ)). (h.first ++ whole_of f.piece ∷ []) ++ ps) p.are; fit = h.fit; low = h.low; within = h.within; place = h.place })
     is field (ap (λ (k : ℕ). limit k 0 p.whole) (sym at) ∙ p.decides) same
 
 -- ---- what follows for a text

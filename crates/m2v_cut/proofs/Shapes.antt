@@ -41,19 +41,24 @@ abbrev pub Follows : List (List ℕ) → Units → Units → Type 0
 Follows [] tail ends = Unit {0}
 Follows (p ∷ ps) tail ends = (tail ≡ [] → ⊥) × (ends ≡ [])
 
--- a piece of a stream's units
-pub record Split (p : List ℕ) (ps : List (List ℕ)) (us rest : Units) : Type 0 where
+-- units of a piece, and the sequence end codes behind them
+pub record Alone (p : List ℕ) : Type 0 where
   pub vs : Units
   pub ends : Units
-  pub is : us ≡ vs ++ rest
   pub units : cut 0 p ≡ ([], vs ++ ends)
   pub whole : p ≡ joined (vs ++ ends)
   pub no_ends : NoEnds vs
   pub at_end : AreEnds ends
   pub shape : Shape vs
-  pub follows : Follows ps shape.tail ends
   pub apart : (shape.tail ≡ [] → ⊥) → ends ≡ []
   pub begins : BeginsPiece vs
+
+-- a piece of a stream's units
+pub record Split (p : List ℕ) (ps : List (List ℕ)) (us rest : Units) : Type 0 where
+  pub own : Alone p
+  pub open own use *
+  pub is : us ≡ vs ++ rest
+  pub follows : Follows ps shape.tail ends
 
 -- pieces are those of a stream's units
 abbrev pub Splits : List (List ℕ) → Units → Type 0
@@ -128,17 +133,9 @@ last_split : (phase : Phase) (ws ends : Units) (p : InPhase phase ws) → NoEnds
 last_split phase ws ends p n e apart b h = (
   [],
   record {
-    vs = ws;
-    ends = ends;
+    own = record { vs = ws; ends = ends; units = cut_all (ws ++ ends) h; whole = refl; no_ends = n; at_end = e; shape = shape_of phase ws p; apart = apart; begins = b };
     is = refl;
-    units = cut_all (ws ++ ends) h;
-    whole = refl;
-    no_ends = n;
-    at_end = e;
-    shape = shape_of phase ws p;
     follows = tt;
-    apart = apart;
-    begins = b;
   },
   refl,
 )
@@ -148,17 +145,19 @@ one_split : (ws us : Units) (q : List ℕ) (qs : List (List ℕ)) → InPhase Pi
 one_split ws us q qs p n b h others = (
   us,
   record {
-    vs = ws;
-    ends = [];
+    own = record {
+      vs = ws;
+      ends = [];
+      units = cut_all ws h ∙ ap (λ (l : Units). ([], l)) (sym (append-nil ws));
+      whole = ap joined (sym (append-nil ws));
+      no_ends = n;
+      at_end = tt;
+      shape = p.0;
+      apart = λ some. refl;
+      begins = b;
+    };
     is = refl;
-    units = cut_all ws h ∙ ap (λ (l : Units). ([], l)) (sym (append-nil ws));
-    whole = ap joined (sym (append-nil ws));
-    no_ends = n;
-    at_end = tt;
-    shape = p.0;
     follows = (p.1, refl);
-    apart = λ some. refl;
-    begins = b;
   },
   others,
 )

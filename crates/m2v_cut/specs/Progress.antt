@@ -75,13 +75,18 @@ abbrev pub are_some : List (List ℕ) → Bool
 are_some [] = false
 are_some (p ∷ ps) = true
 
--- the piece that holds the header of a group
-pub record IsFound (from : ℕ) (left : Change) (c : Cutting) (f : Found) : Type 0 where
+-- a piece holds the header of a group, behind these
+pub record HasGroup (from : ℕ) (f : Found) : Type 0 where
   pub first : List (List ℕ)
   pub few : all_groups first ≤ from
   pub number : f.number ≡ from - all_groups first
   pub here : f.number < groups_of (whole_of f.piece)
   pub behind : f.behind ≡ are_some first
+
+-- the piece that holds the header of a group was read
+pub record IsFound (from : ℕ) (left : Change) (c : Cutting) (f : Found) : Type 0 where
+  pub group : HasGroup from f
+  pub open group use *
   pub sound : IsSoundPiece f.piece
   pub progress : Progress left c (first ++ whole_of f.piece ∷ [])
   pub place : c.place ≡ f.piece.place + f.piece.length

@@ -1,61 +1,36 @@
 //! Bytes of a piece on output.
-ghost use Rattle.std.specs.Prelude.{◌≡◌, ◌+◌, ◌-◌, ◌≤◌, ◌<◌, ◌∷◌, ◌++◌, [], length, take, drop, replicate, slice_index, IsTrue, IfErr, OnOk, Ok};
+ghost use Rattle.std.specs.Prelude.{◌≡◌, ◌+◌, ◌-◌, ◌≤◌, ◌<◌, ◌∷◌, ◌++◌, [], length, take, drop, slice_index, IsTrue, IfErr, OnOk, Ok};
 ghost use Rattle.m2v_port.specs.Ends.{change, SinkStays};
 ghost use Rattle.m2v_port.specs.Port.{Grows};
+ghost use Rattle.m2v_dec_piece.specs.Putting.{PutStops, named};
 ghost use Rattle.m2v_decode.specs.m2v_dec_piece.Sound.{IsSoundPiece};
 ghost use Rattle.m2v_decode.specs.Decoding.{whole_of};
 ghost use Rattle.m2v_law_group.specs.Groups.{with_broken_link};
-ghost use Rattle.m2v_cut.specs.Progress.{Cuts, part, head_of};
+ghost use Rattle.m2v_cut.specs.Progress.{part, head_of};
+ghost use Rattle.m2v_cut.specs.declared.answer.CutError.TheVariants as errors;
 
 use crate::answer::CutError;
+use m2v_dec_piece::{named, put, put_zeros};
 use m2v_decode::Piece;
 use m2v_port::{PortError, Sink};
 
-/// How many zero bytes are written at once.
-const MOST: usize = 4096;
+impl From<PortError> for CutError {
+    ghost from_gives = { λ e f. f ≡ named e errors.Write errors.Memory };
 
-/// Writes bytes.
-pub fn put<K: Sink>(bytes: &[u8], output: &mut K) -> Result<(), CutError>
-    requires output { IsTrue (K.ready output.old) }
-    ensures grown { OnOk result (Grows (K.held output.old) bytes.now (K.held output.new)) }
-    ensures err { IfErr result (Cuts bytes.now (change K.held K.faults output.old output.new)) }
-    ensures output { SinkStays K.ready K.name K.faults output.old output.new }
-{
-    match output.put(bytes) {
-        Ok(()) => Ok(()),
-        Err(PortError::Failed) => Err(CutError::Write),
-        Err(PortError::Memory) => Err(CutError::Memory),
+    fn from(e: PortError) -> CutError {
+        named(e, CutError::Write, CutError::Memory)
     }
-}
-
-/// Writes zero bytes, by way of a buffer.
-fn put_zeros<K: Sink>(zeros: u64, output: &mut K) -> Result<(), CutError>
-    requires output { IsTrue (K.ready output.old) }
-    ensures grown { OnOk result (Grows (K.held output.old) (replicate zeros 0)
-        (K.held output.new)) }
-    ensures err { IfErr result (Cuts (replicate zeros 0)
-        (change K.held K.faults output.old output.new)) }
-    ensures output { SinkStays K.ready K.name K.faults output.old output.new }
-{
-    let buffer = [0u8; MOST];
-    let mut left = zeros;
-    while left > 0 {
-        let n = left.min(MOST as u64);
-        put(&buffer[..n as usize], output)?;
-        left -= n;
-    }
-    Ok(())
 }
 
 /// Writes the bytes of a piece from one place in it up to another, the zero bytes that aren't kept among them.
-pub fn put_part<K: Sink>(piece: &Piece, from: u64, to: u64, output: &mut K) -> Result<(), CutError>
+pub fn put_part<K: Sink>(piece: &Piece, from: u64, to: u64, output: &mut K) -> Result<(), PortError>
     requires piece { IsSoundPiece piece.now }
     requires ordered { from ≤ to }
     requires within { to ≤ piece.now.length }
     requires output { IsTrue (K.ready output.old) }
     ensures grown { OnOk result (Grows (K.held output.old) (part from to (whole_of piece.now))
         (K.held output.new)) }
-    ensures err { IfErr result (Cuts (part from to (whole_of piece.now))
+    ensures err { IfErr result (PutStops (part from to (whole_of piece.now))
         (change K.held K.faults output.old output.new)) }
     ensures output { SinkStays K.ready K.name K.faults output.old output.new }
 {
@@ -94,7 +69,7 @@ pub fn put_first<K: Sink>(
     header: u64,
     behind: bool,
     output: &mut K,
-) -> Result<u64, CutError>
+) -> Result<u64, PortError>
     requires piece { IsSoundPiece piece.now }
     requires ordered { sequence ≤ header }
     requires within { header + 8 ≤ piece.now.length }
@@ -102,7 +77,7 @@ pub fn put_first<K: Sink>(
     ensures grown { OnOk result (Grows (K.held output.old)
         (head_of (whole_of piece.now) sequence header behind) (K.held output.new)) }
     ensures bytes { OnOk result (result ≡ Ok (piece.now.length - sequence)) }
-    ensures err { IfErr result (Cuts (head_of (whole_of piece.now) sequence header behind)
+    ensures err { IfErr result (PutStops (head_of (whole_of piece.now) sequence header behind)
         (change K.held K.faults output.old output.new)) }
     ensures output { SinkStays K.ready K.name K.faults output.old output.new }
 {

@@ -11,9 +11,10 @@ use crate::answer::{CutError, CutSummary};
 use crate::behind::put_behind;
 use crate::copy::Copied;
 use crate::find::{Found, find};
-use crate::put::{put, put_first};
+use crate::put::put_first;
 use crate::second::second_piece;
 use crate::start::{cuttable, start_in};
+use m2v_dec_piece::put;
 use m2v_decode::Cutter;
 use m2v_port::{Sink, Source};
 use std::alloc::Global;
@@ -77,32 +78,6 @@ fn cut_from<S: Source, K: Sink>(
     })
 }
 
-/// Reads up to a group and cuts out from it on.
-fn cut_group<S: Source, K: Sink>(
-    alloc: Global,
-    from: u32,
-    count: u32,
-    input: &mut S,
-    output: &mut K,
-) -> Result<CutSummary, CutError>
-    requires count { 1 ≤ count }
-    requires output { IsTrue (K.ready output.old) }
-    ensures ok { IfOk result (λ s. OfText
-        (change S.left S.faults input.old input.new) (λ text. IsCutOut text from count
-        (change K.held K.faults output.old output.new) s)) }
-    ensures err { IfErr result (Fails from count
-        (change S.left S.faults input.old input.new)
-        (change K.held K.faults output.old output.new)) }
-    ensures output { SinkStays K.ready K.name K.faults output.old output.new }
-    ensures input { S.faults input.old ≤ S.faults input.new }
-{
-    let Ok(mut cutter) = Cutter::new(alloc) else {
-        return Err(CutError::Memory);
-    };
-    let found = find(alloc, from, &mut cutter, input)?;
-    cut_from(alloc, found, count, &mut cutter, input, output)
-}
-
 /// Cuts whole groups out of a stream: so many from group `from` on, which are numbered from 0 by their group headers, or
 /// those that are there, behind the last sequence header before them and with an end code behind them. Where a picture
 /// stands before them the first group's header tells that its link to it is broken; all other bytes are copied.
@@ -137,5 +112,9 @@ pub fn cut<S: Source, K: Sink>(
     ensures output { SinkStays K.ready K.name K.faults output.old output.new }
     ensures input { S.faults input.old ≤ S.faults input.new }
 {
-    cut_group(alloc, from, count, input, output)
+    let Ok(mut cutter) = Cutter::new(alloc) else {
+        return Err(CutError::Memory);
+    };
+    let found = find(alloc, from, &mut cutter, input)?;
+    cut_from(alloc, found, count, &mut cutter, input, output)
 }

@@ -31,7 +31,7 @@ use Rattle.m2v_audit.specs.Auditing.{longer, begun, begun_by, with_first, cleare
 use Rattle.m2v_audit.specs.Front.{front_of}
 use Rattle.m2v_law_audit.specs.Found.{along, all_along}
 use Rattle.m2v_law_audit.proofs.EventsFront.{Fronts, closed_none, begins_by_sequence}
-use Rattle.m2v_law_audit.proofs.EventsPieces.{AreReady, piece_says, all_ready}
+use Rattle.m2v_law_audit.proofs.EventsPieces.{AreReady, PieceSays, piece_says, all_ready}
 
 -- ---- what one piece tells
 
@@ -42,10 +42,8 @@ pub record Turn (b : Between) (p : List ℕ) (later : List (List ℕ)) (es : Eve
   pub rest : Events
   pub read : units_read b (cut 0 p).1 ≡ Ok (own, next)
   pub are : es ≡ own ++ rest
-  pub fronts : (place : ℕ) → Fronts (front_of place p) own
-  pub last : PictureLast own
-  pub headed : AreHeaded b.state.sequence own
-  pub sequence : next.state.sequence ≡ last_in b.state.sequence own
+  pub told : PieceSays b p later own next
+  pub open told use *
   pub one : IsOne (length (pictures_in own)) later
   pub shut : b.state.picture ≡ None
 
@@ -111,10 +109,7 @@ turns_of (p ∷ ps) b at es last e turn ready =
       rest = h.rest;
       read = read;
       are = h.are;
-      fronts = s.fronts;
-      last = s.last;
-      headed = (s.says).headed;
-      sequence = (s.says).sequence;
+      told = s;
       one = one.0;
       shut = ready.shut;
     } in

@@ -3,8 +3,9 @@ use Rattle.std.proofs.lemmas.Result.{err_from_is_err_and}
 use Rattle.m2v_port.specs.Ends.{change}
 use Rattle.m2v_port.specs.Port.{Grows}
 use Rattle.m2v_decode.specs.Decoding.{whole_of}
-use Rattle.m2v_cut.specs.Progress.{Cuts}
+use Rattle.m2v_dec_piece.specs.Putting.{PutStops}
 use Rattle.m2v_cut.proofs.Lefts.{bytes_less, bytes_are, bytes_part}
+use Rattle.m2v_cut.proofs.Putting.{cuts_named}
 use Rattle.m2v_cut.proofs.copy.put_next.Goals as goal
 
 pub put_part-requires-clause-within : goal.put_part-requires-clause-within
@@ -18,8 +19,8 @@ returns-in_err-put_part-clause-err g c =
     let groups = rw c.units.ensures.value at c.count-counted.ensures.groups in
     rw (p.1, p.2) (
       omega (arith, c.if-counted-most.false, c.requires.few, groups),
-      subst (λ (b : List ℕ). Cuts b (change g.K.Sink.held g.K.Sink.faults c.args.output.now c.put_part.new.output) c.in_err-put_part.field-0.0)
-          (bytes_part whole _ (bytes_are whole c.count-counted.result.bits (rw c.units.ensures.value at c.count-counted.ensures.bits))) c.in_err-put_part.ensures.err,
+      cuts_named _ _ c.in_err-put_part.field-0.0 (subst (λ (b : List ℕ). PutStops b (change g.K.Sink.held g.K.Sink.faults c.args.output.now c.put_part.new.output) c.in_err-put_part.field-0.0)
+          (bytes_part whole _ (bytes_are whole c.count-counted.result.bits (rw c.units.ensures.value at c.count-counted.ensures.bits))) c.in_err-put_part.ensures.err),
     )
 
 pub returns-clause-put : goal.returns-clause-put

@@ -43,11 +43,13 @@ returns-then-number-groups-clause-ok g c =
     let sound = rw c.in-Ok-Some.field-0-is at c.in-Ok-Some.ensures.sound in
     let onward = rw c.in-Ok-Some.field-0-is at c.in-Ok-Some.ensures.onward in
     record {
-      first = inv.finding.first;
-      few = inv.finding.few;
-      number = omega (arith, c.from-in-Ok-Some.ensures, inv.finding.before_is);
-      here = omega (arith, c.if-number-groups.true, c.groups_in-groups.ensures);
-      behind = inv.finding.behind_is;
+      group = record {
+        first = inv.finding.first;
+        few = inv.finding.few;
+        number = omega (arith, c.from-in-Ok-Some.ensures, inv.finding.before_is);
+        here = omega (arith, c.if-number-groups.true, c.groups_in-groups.ensures);
+        behind = inv.finding.behind_is;
+      };
       sound = sound;
       progress = progress_more g.S.Source.left g.S.Source.faults _ _ _ _ _ inv.finding.first c.in-Ok-Some.piece inv.finding.progress x begun c.in-Ok-Some.ensures.taken;
       place = onward.1;

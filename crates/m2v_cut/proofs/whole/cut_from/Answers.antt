@@ -8,6 +8,7 @@ use Rattle.m2v_port.specs.Ends.{change}
 use Rattle.m2v_cut.specs.Starts.{piece_list}
 use Rattle.m2v_cut.specs.Behind.{BehindPut, BehindFails}
 use Rattle.m2v_cut.proofs.Parts.{head_failed}
+use Rattle.m2v_cut.proofs.Putting.{cuts_named}
 use Rattle.m2v_cut.proofs.Refusals.{refused_told}
 use Rattle.m2v_cut.proofs.Seconds.{second_failed}
 use Rattle.m2v_cut.proofs.Wholes.{whole_told, end_failed}
@@ -49,8 +50,8 @@ pub returns-in_err-bytes-clause-err : goal.returns-in_err-bytes-clause-err
 returns-in_err-bytes-clause-err g c = λ from first le found.
     let p = err_from_is_err_and c.from_residual-in_err-bytes.result c.from_residual-in_err-bytes.ensures.1 in
     rw (p.1, p.2)
-    (head_failed g.S.Source.left g.S.Source.faults g.K.Sink.held g.K.Sink.faults first c.args.input.now c.second_piece.new.input c.args.output.now c.put_first.new.output from c.args.count _ _ c.args.found c.start_in-start.result c.in_ok-second.second c.in-Some.sequence c.in_err-bytes.field-0.0 c.requires.count found c.in_ok-second.ensures.ok c.start_in-start.ensures
-    (sym c.cuttable.ensures ∙ c.in-Some.is) c.in_err-bytes.ensures.err)
+    (head_failed g.S.Source.left g.S.Source.faults g.K.Sink.held g.K.Sink.faults first c.args.input.now c.second_piece.new.input c.args.output.now c.put_first.new.output from c.args.count _ _ c.args.found c.start_in-start.result c.in_ok-second.second c.in-Some.sequence _ c.requires.count found c.in_ok-second.ensures.ok c.start_in-start.ensures
+    (sym c.cuttable.ensures ∙ c.in-Some.is) (cuts_named _ _ c.in_err-bytes.field-0.0 c.in_err-bytes.ensures.err))
 
 pub returns-in_err-second-clause-err : goal.returns-in_err-second-clause-err
 returns-in_err-second-clause-err g c = λ from first le found.
@@ -81,8 +82,8 @@ returns-in_err-put-clause-err g c = λ from first le found.
     let others = c.put_behind.ensures.output in
     rw (p.1, p.2)
     (end_failed g.S.Source.left g.S.Source.faults g.K.Sink.held g.K.Sink.faults first c.args.input.now c.second_piece.new.input c.put_behind.new.input c.args.output.now c.put_first.new.output c.put_behind.new.output c.put.new.output from c.args.count c.in_ok-bytes.bytes c.args.cutter.now c.second_piece.new.cutter c.put_behind.new.cutter c.args.found
-    c.start_in-start.result c.in_ok-second.second c.in-Some.sequence c.put_behind.new.copied c.in_err-put.field-0.0 (omega (arith, heads.counts, others.counts)) found c.in_ok-second.ensures.ok c.start_in-start.ensures (sym c.cuttable.ensures ∙ c.in-Some.is) c.in_ok-bytes.ensures.grown
-    (subst (λ (k : ℕ). BehindPut (piece_list c.in_ok-second.second) k (record { groups = 1; bytes = c.in_ok-bytes.bytes }) c.put_behind.new.copied (change g.S.Source.left g.S.Source.faults c.second_piece.new.input c.put_behind.new.input) (change g.K.Sink.held g.K.Sink.faults c.put_first.new.output c.put_behind.new.output) c.second_piece.new.cutter c.put_behind.new.cutter) c.from.ensures c.in_ok-put_behind.ensures.put) c.in_err-put.ensures.err)
+    c.start_in-start.result c.in_ok-second.second c.in-Some.sequence c.put_behind.new.copied _ (omega (arith, heads.counts, others.counts)) found c.in_ok-second.ensures.ok c.start_in-start.ensures (sym c.cuttable.ensures ∙ c.in-Some.is) c.in_ok-bytes.ensures.grown
+    (subst (λ (k : ℕ). BehindPut (piece_list c.in_ok-second.second) k (record { groups = 1; bytes = c.in_ok-bytes.bytes }) c.put_behind.new.copied (change g.S.Source.left g.S.Source.faults c.second_piece.new.input c.put_behind.new.input) (change g.K.Sink.held g.K.Sink.faults c.put_first.new.output c.put_behind.new.output) c.second_piece.new.cutter c.put_behind.new.cutter) c.from.ensures c.in_ok-put_behind.ensures.put) (cuts_named _ _ c.in_err-put.field-0.0 c.in_err-put.ensures.err))
 
 pub returns-clause-ok : goal.returns-clause-ok
 returns-clause-ok g c = λ from first found.
