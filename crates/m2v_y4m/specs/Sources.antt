@@ -21,6 +21,9 @@ pub record Standing : Type 0 where
   pub line : ℕ
   pub fault : Option Y4mFault
 
+abbrev pub standing : Y4mHeader → List ℕ → ℕ → ℕ → ℕ → Option Y4mFault → Standing
+standing header unread place rest line fault = record { header = header; unread = unread; place = place; rest = rest; line = line; fault = fault }
+
 -- what comes of the bytes that weren't given yet, where no fault was found so far
 unfoldable pub coming_at : ℕ → ℕ → ℕ → ℕ → List ℕ → Coming
 coming_at size line rest place text =

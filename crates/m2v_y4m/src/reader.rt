@@ -37,18 +37,11 @@ impl Model for Reader {
     ghost use Rattle.std.specs.Prelude.{◌≡◌, ◌≤◌};
     ghost use Rattle.m2v_y4m.specs.Frames.{size_of};
     ghost use Rattle.m2v_y4m.specs.Rules.{IsHeader};
-    ghost use Rattle.m2v_y4m.specs.Sources.{Standing};
+    ghost use Rattle.m2v_y4m.specs.Sources.{Standing, standing};
 
     ghost Value = { Standing };
 
-    ghost view = { λ r. record {
-      header = r.header;
-      unread = r.chunk;
-      place = r.place;
-      rest = r.rest;
-      line = r.line;
-      fault = r.fault;
-    } };
+    ghost view = { λ r. standing r.header r.chunk r.place r.rest r.line r.fault };
 
     ghost invariant = { λ r. IsHeader r.header × (r.size ≡ size_of r.header)
         × (r.rest ≤ r.size) };
