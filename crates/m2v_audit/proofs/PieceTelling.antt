@@ -1,6 +1,6 @@
 -- A piece is read, audited and told: what its calls make of it.
-use Rattle.std.proofs.Common.{◌≡◌, inl, inr, ℕ, ◌+◌, List, length, Option, None, Result, Ok, Err, OnOk, refl, sym, ap, subst, ◌∙◌, arith}
-use Rattle.std.specs.Prelude.{IfErr, IfSome}
+use Rattle.std.proofs.Common.{◌≡◌, inl, inr, ℕ, ◌+◌, List, length, Option, None, refl, sym, ap, subst, ◌∙◌, arith}
+use Rattle.std.specs.Prelude.{IfSome}
 use Rattle.m2v_port.specs.Ends.{Change, change}
 use Rattle.m2v_port.specs.Port.{Grows, GrowsByPrefix}
 use Rattle.m2v_model.specs.declared.notes.Notes.{Notes}

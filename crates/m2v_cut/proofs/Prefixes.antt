@@ -8,12 +8,12 @@ use Rattle.m2v_model.specs.declared.phase.Phase.TheVariants.{Before, Headers, Pi
 use Rattle.m2v_model.specs.Units.{Units, cut, joined, AreUnits}
 use Rattle.m2v_model.specs.Streams.{value_of}
 use Rattle.m2v_model.specs.Pieces.{phase_after, begins_piece, is_end, piece_of, grouped, pieces}
-use Rattle.m2v_model.proofs.CutLaws.{cut_cuts, cut_units, joined-append, are_before, are_behind, are_code}
+use Rattle.m2v_model.proofs.CutLaws.{cut_cuts, cut_units, are_before, are_behind, are_code}
 use Rattle.m2v_model.proofs.ShiftLaws.{BeginsPiece, NoEnds}
 use Rattle.m2v_model.proofs.PieceLaws.{value_code, sequence_goes}
 use Rattle.m2v_law_group.specs.Groups.{is_sequence, from_sequence, to_end, stream_units}
 use Rattle.m2v_cut.specs.Answers.{of_pieces}
-use Rattle.m2v_cut.proofs.Shapes.{Shape, Splits, BeginsSequence, pieces_split, begins_sequence}
+use Rattle.m2v_cut.proofs.Shapes.{Splits, BeginsSequence, pieces_split, begins_sequence}
 use Rattle.m2v_cut.proofs.Fulls.{before_split}
 
 -- ---- units up to the end code, and that code

@@ -21,8 +21,7 @@ use Rattle.m2v_model.proofs.PieceLaws.{placed, piece_is, by_pieces}
 use Rattle.m2v_model.proofs.TurnLaws.{pictures_in_turn}
 use Rattle.m2v_model.proofs.Unique.{exactly_one}
 use Rattle.m2v_audit.specs.m2v_check.Laws.{Alternates}
-use Rattle.m2v_audit.proofs.m2v_check.Telling.{AtLast, InFront, by_units, of_last, first_in, last_in, first-append, AreHeaded, Says, says_on, says_nothing}
-use Rattle.m2v_audit.proofs.m2v_check.Ordered.{PictureLast}
+use Rattle.m2v_audit.proofs.m2v_check.Telling.{AtLast, InFront, by_units, of_last, first_in, first-append, Says, says_on, says_nothing}
 use Rattle.m2v_audit.proofs.m2v_check.Onward.{first_stays}
 use Rattle.m2v_audit.proofs.m2v_check.m2v_decode.m2v_dec_rows.UnitGifts.{first_value}
 use Rattle.m2v_audit.proofs.m2v_check.Checking.{units_of_piece}
