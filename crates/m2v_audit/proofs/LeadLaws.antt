@@ -3,13 +3,9 @@ use Rattle.std.proofs.Common.{◌≡◌, ℕ, ◌≤◌, List, [], ◌++◌, Opt
 use Rattle.std.specs.Prelude.{IfErr}
 use Rattle.m2v_port.specs.Ends.{Change, change}
 use Rattle.m2v_port.specs.Port.{Moves, Grows, GrowsByPrefix}
-use Rattle.m2v_port.specs.declared.error.PortError.{PortError}
-use Rattle.m2v_port.specs.declared.error.PortError.TheVariants as ports
 use Rattle.m2v_port.proofs.Runs.{rose_since, moves_on, moves_nothing, grows_on, grows_by_nothing, grows_by_none, prefix_on, prefix_of_more}
 use Rattle.m2v_dec_piece.specs.declared.answer.DecodeError.{DecodeError}
 use Rattle.m2v_dec_piece.specs.declared.answer.DecodeError.TheVariants as errors
-use Rattle.m2v_dec_piece.specs.Putting.{PutStops, named}
-use Rattle.m2v_dec_piece.proofs.PutLaws.{stops_on as put_on}
 use Rattle.m2v_strict.specs.m2v_check.m2v_decode.Progress.{Cuts}
 use Rattle.m2v_strict.proofs.m2v_check.m2v_decode.Going.{moved_some}
 use Rattle.m2v_audit.specs.Audited.{Audited, then_comes}
@@ -23,21 +19,24 @@ both_come xs ys x = ap (λ (r : List ℕ). record { report = r; outcome = x.outc
 pub first_line : (xs none line : List ℕ) → xs ≡ none ++ line → none ≡ [] → xs ≡ line
 first_line xs none line is empty = is ∙ ap (λ (t : List ℕ). t ++ line) empty
 
--- by one's own error
-pub cuts_named : (bytes : List ℕ) (held : Change) (e : PortError) → PutStops bytes held e → Cuts bytes held (named e errors.Write errors.Memory)
-cuts_named bytes held ports.Failed stops = (stops.failed refl, stops.grown)
-cuts_named bytes held ports.Memory stops = stops.grown
-
 module _ {K : Type 0} (held : K → Option (List ℕ)) (output_faults : K → ℕ) where
   abbrev put : K → K → Change
   put = change held output_faults
 
   -- lines put behind others, or a prefix of them
-  pub stops_after : (result : Result (Unit {0}) PortError) (o0 o1 o2 : K) (xs ys xs' ys' : List ℕ) → output_faults o0 ≤ output_faults o1 → Grows (held o0) xs (held o1) → xs ≡ xs' → ys ≡ ys'
-      → IfErr result (PutStops ys (put o1 o2)) → IfErr result (PutStops (xs' ++ ys') (put o0 o2))
-  stops_after (Ok done) o0 o1 o2 xs ys xs' ys' le grown is_xs is_ys stops = tt
-  stops_after (Err e) o0 o1 o2 xs ys xs' ys' le grown is_xs is_ys stops =
-      put_on held output_faults o0 o1 o2 xs' ys' e le (subst (λ (l : List ℕ). Grows (held o0) l (held o1)) is_xs grown) (subst (λ (l : List ℕ). PutStops l (put o1 o2) e) is_ys stops)
+  pub cuts_on : (o0 o1 o2 : K) (xs ys : List ℕ) (e : DecodeError) → output_faults o0 ≤ output_faults o1 → Grows (held o0) xs (held o1) → Cuts ys (put o1 o2) e → Cuts (xs ++ ys) (put o0 o2) e
+  cuts_on o0 o1 o2 xs ys errors.Read le g c = c
+  cuts_on o0 o1 o2 xs ys errors.Write le g c = (rose_since le c.0, prefix_on g c.1)
+  cuts_on o0 o1 o2 xs ys (errors.Stream f) le g c = c
+  cuts_on o0 o1 o2 xs ys errors.TooLong le g c = c
+  cuts_on o0 o1 o2 xs ys errors.PictureTooLarge le g c = c
+  cuts_on o0 o1 o2 xs ys errors.Memory le g c = prefix_on g c
+
+  pub cuts_after : (result : Result (Unit {0}) DecodeError) (o0 o1 o2 : K) (xs ys xs' ys' : List ℕ) → output_faults o0 ≤ output_faults o1 → Grows (held o0) xs (held o1) → xs ≡ xs' → ys ≡ ys'
+      → IfErr result (Cuts ys (put o1 o2)) → IfErr result (Cuts (xs' ++ ys') (put o0 o2))
+  cuts_after (Ok done) o0 o1 o2 xs ys xs' ys' le grown is_xs is_ys cut = tt
+  cuts_after (Err e) o0 o1 o2 xs ys xs' ys' le grown is_xs is_ys cut =
+      cuts_on o0 o1 o2 xs' ys' e le (subst (λ (l : List ℕ). Grows (held o0) l (held o1)) is_xs grown) (subst (λ (l : List ℕ). Cuts l (put o1 o2) e) is_ys cut)
 
 module _ {S K : Type 0} (left : S → Option (List ℕ)) (input_faults : S → ℕ) (held : K → Option (List ℕ)) (output_faults : K → ℕ) where
   abbrev input : S → S → Change

@@ -1,6 +1,6 @@
 -- A piece is read, audited and told: what its calls make of it.
-use Rattle.std.proofs.Common.{◌≡◌, inl, inr, ℕ, ◌+◌, List, length, Option, None, refl, sym, ap, subst, ◌∙◌, arith}
-use Rattle.std.specs.Prelude.{IfSome}
+use Rattle.std.proofs.Common.{◌≡◌, inl, inr, ℕ, ◌+◌, List, length, Option, None, Result, Ok, Err, OnOk, refl, sym, ap, subst, ◌∙◌, arith}
+use Rattle.std.specs.Prelude.{IfErr, IfSome}
 use Rattle.m2v_port.specs.Ends.{Change, change}
 use Rattle.m2v_port.specs.Port.{Grows, GrowsByPrefix}
 use Rattle.m2v_model.specs.declared.notes.Notes.{Notes}
@@ -59,13 +59,15 @@ module _ {K : Type 0} (held : K → Option (List ℕ)) (faults : K → ℕ) (r :
   refused o d errors.Memory h = inl refl
 
   -- it was read and audited, and what it tells was put
-  pub told : (o o' : K) (notes : Notes) (r' : Reading) (b a' : Auditing) → ((d : Decoding) → Follows r d → LeadsOn d p.place (whole_of p) notes r') → b ≡ after_piece a p.place (whole_of p) (noted notes) → Grows (held o) b.report.text (held o') → a' ≡ cleared b → PieceTold r a p (output o o') r' a'
-  told o o' notes r' b a' leads is grown clear = record {
+  pub told : (result : Result (Unit {0}) DecodeError) (o o' : K) (notes : Notes) (r' : Reading) (b a' : Auditing) → ((d : Decoding) → Follows r d → LeadsOn d p.place (whole_of p) notes r')
+      → b ≡ after_piece a p.place (whole_of p) (noted notes) → OnOk result (Grows (held o) b.report.text (held o')) → OnOk result (a' ≡ cleared b) → OnOk result (PieceTold r a p (output o o') r' a')
+  told (Ok done) o o' notes r' b a' leads is grown clear = record {
     notes = notes;
     leads = leads;
     grown = subst (λ (x : Auditing). Grows (held o) x.report.text (held o')) is grown;
     auditing = clear ∙ ap cleared is;
   }
+  told (Err e) o o' notes r' b a' leads is grown clear = tt
 
   cut : (o o' : K) (d : Decoding) (notes : Notes) (r' : Reading) (b : Auditing) → LeadsOn d p.place (whole_of p) notes r' → b ≡ after_piece a p.place (whole_of p) (noted notes) → GrowsByPrefix (held o) b.report.text (held o') → PieceCut d a p (output o o')
   cut o o' d notes r' b leads is grown = record {
@@ -75,8 +77,7 @@ module _ {K : Type 0} (held : K → Option (List ℕ)) (faults : K → ℕ) (r :
     grown = subst (λ (x : Auditing). GrowsByPrefix (held o) x.report.text (held o')) is grown;
   }
 
-  -- or a prefix of it
-  pub cut_by : (o o' : K) (d : Decoding) (notes : Notes) (r' : Reading) (b a' : Auditing) (e : DecodeError) → LeadsOn d p.place (whole_of p) notes r' → b ≡ after_piece a p.place (whole_of p) (noted notes)
+  cut_by : (o o' : K) (d : Decoding) (notes : Notes) (r' : Reading) (b a' : Auditing) (e : DecodeError) → LeadsOn d p.place (whole_of p) notes r' → b ≡ after_piece a p.place (whole_of p) (noted notes)
       → Cuts b.report.text (output o o') e → PieceFails d a p (output o o') a' e
   cut_by o o' d notes r' b a' errors.Read leads is c = c
   cut_by o o' d notes r' b a' errors.Write leads is c = (c.0, cut o o' d notes r' b leads is c.1)
@@ -84,3 +85,9 @@ module _ {K : Type 0} (held : K → Option (List ℕ)) (faults : K → ℕ) (r :
   cut_by o o' d notes r' b a' errors.TooLong leads is c = c
   cut_by o o' d notes r' b a' errors.PictureTooLarge leads is c = c
   cut_by o o' d notes r' b a' errors.Memory leads is c = inr (cut o o' d notes r' b leads is c)
+
+  -- or a prefix of it
+  pub cut_off : (result : Result (Unit {0}) DecodeError) (o o' : K) (notes : Notes) (r' : Reading) (b a' : Auditing) → ((d : Decoding) → Follows r d → LeadsOn d p.place (whole_of p) notes r')
+      → b ≡ after_piece a p.place (whole_of p) (noted notes) → IfErr result (Cuts b.report.text (output o o')) → IfErr result (λ e. (d : Decoding) → Follows r d → PieceFails d a p (output o o') a' e)
+  cut_off (Ok done) o o' notes r' b a' leads is c = tt
+  cut_off (Err e) o o' notes r' b a' leads is c = λ d f. cut_by o o' d notes r' b a' e (leads d f) is c

@@ -3,9 +3,9 @@ ghost use Rattle.std.specs.Prelude.{◌≡◌, ◌+◌, ◌≤◌, ◌^◌, IsTr
 ghost use Rattle.m2v_port.specs.Ends.{change, SinkStays};
 ghost use Rattle.m2v_port.specs.Port.{Grows};
 ghost use Rattle.m2v_model.specs.ByPieces.{at_start};
-ghost use Rattle.m2v_dec_piece.specs.Putting.{PutStops};
 ghost use Rattle.m2v_dec_piece.specs.Sound.{IsSoundPiece};
 ghost use Rattle.m2v_strict.specs.m2v_check.m2v_decode.Decoding.{Decoding};
+ghost use Rattle.m2v_strict.specs.m2v_check.m2v_decode.Progress.{Cuts};
 ghost use Rattle.m2v_strict.specs.m2v_check.m2v_decode.Reading.{nothing_read, Follows};
 ghost use Rattle.m2v_audit.specs.Auditing.{cleared, is_begun};
 ghost use Rattle.m2v_audit.specs.Feeding.{cutting_of, IsFed};
@@ -13,18 +13,31 @@ ghost use Rattle.m2v_audit.specs.Leading.{PieceTold, PieceFails, AreTold, IsText
 
 use crate::auditor::Auditor;
 use crate::feed::Feed;
-use m2v_dec_piece::put;
 use m2v_port::{PortError, Sink, Source};
 use m2v_strict::check::decode::{DecodeError, Piece, Reader};
 use std::alloc::Global;
 
+/// Writes bytes.
+pub(crate) fn put<K: Sink>(bytes: &[u8], output: &mut K) -> Result<(), DecodeError>
+    requires output { IsTrue (K.ready output.old) }
+    ensures grown { OnOk result (Grows (K.held output.old) bytes.now (K.held output.new)) }
+    ensures err { IfErr result (Cuts bytes.now (change K.held K.faults output.old output.new)) }
+    ensures output { SinkStays K.ready K.name K.faults output.old output.new }
+{
+    match output.put(bytes) {
+        Ok(()) => Ok(()),
+        Err(PortError::Failed) => Err(DecodeError::Write),
+        Err(PortError::Memory) => Err(DecodeError::Memory),
+    }
+}
+
 /// Writes what an auditor has told, and takes it away.
-fn put_told<K: Sink>(auditor: &mut Auditor, output: &mut K) -> Result<(), PortError>
+fn put_told<K: Sink>(auditor: &mut Auditor, output: &mut K) -> Result<(), DecodeError>
     requires output { IsTrue (K.ready output.old) }
     ensures grown { OnOk result
         (Grows (K.held output.old) auditor.old.report.text (K.held output.new)) }
     ensures auditor { OnOk result (auditor.new ≡ cleared auditor.old) }
-    ensures err { IfErr result (PutStops auditor.old.report.text
+    ensures err { IfErr result (Cuts auditor.old.report.text
         (change K.held K.faults output.old output.new)) }
     ensures output { SinkStays K.ready K.name K.faults output.old output.new }
 {
@@ -57,8 +70,7 @@ fn tell_piece<K: Sink>(
 {
     let notes = reader.piece(alloc, piece)?;
     auditor.piece(alloc, piece, &notes)?;
-    put_told(auditor, output)?;
-    Ok(())
+    put_told(auditor, output)
 }
 
 /// Reads and audits the pieces of a text, and writes what each tells. `later`: the text needs no sequence. Answers

@@ -2,8 +2,7 @@
 ghost use Rattle.std.specs.Prelude.{◌≡◌, ◌-◌, ◌≤◌, ◌^◌, ◌++◌, ℕ, length, IsTrue, IfOk, IfErr, OnOk, None, false};
 ghost use Rattle.m2v_port.specs.Ends.{change, SinkStays};
 ghost use Rattle.m2v_port.specs.Port.{Grows};
-ghost use Rattle.m2v_dec_piece.specs.Putting.{PutStops};
-ghost use Rattle.m2v_strict.specs.m2v_check.m2v_decode.Progress.{before_all};
+ghost use Rattle.m2v_strict.specs.m2v_check.m2v_decode.Progress.{Cuts, before_all};
 ghost use Rattle.m2v_audit.specs.Auditing.{stopped, ended};
 ghost use Rattle.m2v_audit.specs.Audited.{asked_behind, counted_with, none_told, stopping_line as line_of_stop, stopping_text};
 ghost use Rattle.m2v_audit.specs.Feeding.{cutting_of, IsFed};
@@ -15,11 +14,10 @@ use crate::auditor::Auditor;
 use crate::feed::Feed;
 use crate::lines::Lines;
 use crate::outcome::{Ending, Outcome};
-use crate::pieces::read_text;
+use crate::pieces::{put, read_text};
 use crate::records::TotalRecord;
 use crate::words::LimitKind;
-use m2v_dec_piece::put;
-use m2v_port::{PortError, Sink, Source};
+use m2v_port::{Sink, Source};
 use m2v_strict::check::decode::{DecodeError, fault_word};
 use std::alloc::{AllocError, Global};
 
@@ -68,11 +66,11 @@ fn skip<K: Sink>(
     start: u64,
     end: u64,
     output: &mut K,
-) -> Result<(), PortError>
+) -> Result<(), DecodeError>
     requires output { IsTrue (K.ready output.old) }
     ensures grown { OnOk result (Grows (K.held output.old)
         (skipped_text sequence start (end - start)) (K.held output.new)) }
-    ensures err { IfErr result (PutStops (skipped_text sequence start (end - start))
+    ensures err { IfErr result (Cuts (skipped_text sequence start (end - start))
         (change K.held K.faults output.old output.new)) }
     ensures output { SinkStays K.ready K.name K.faults output.old output.new }
 {
@@ -91,12 +89,12 @@ fn count(asked: &mut Asked, totals: &mut TotalRecord, auditor: &Auditor)
 }
 
 /// A sequence ends with its text.
-fn finish<K: Sink>(auditor: &mut Auditor, output: &mut K) -> Result<(), PortError>
+fn finish<K: Sink>(auditor: &mut Auditor, output: &mut K) -> Result<(), DecodeError>
     requires output { IsTrue (K.ready output.old) }
     ensures grown { OnOk result (Grows (K.held output.old) (ended auditor.old).report.text
         (K.held output.new)) }
     ensures auditor { OnOk result (auditor.new ≡ ended auditor.old) }
-    ensures err { IfErr result (PutStops (ended auditor.old).report.text
+    ensures err { IfErr result (Cuts (ended auditor.old).report.text
         (change K.held K.faults output.old output.new)) }
     ensures output { SinkStays K.ready K.name K.faults output.old output.new }
 {
@@ -111,12 +109,12 @@ fn stop<K: Sink>(
     totals: &TotalRecord,
     auditor: &mut Auditor,
     output: &mut K,
-) -> Result<(), PortError>
+) -> Result<(), DecodeError>
     requires output { IsTrue (K.ready output.old) }
     ensures grown { OnOk result (Grows (K.held output.old)
         (stopping_text totals.now auditor.old ending) (K.held output.new)) }
     ensures auditor { OnOk result (auditor.new ≡ stopped auditor.old) }
-    ensures err { IfErr result (PutStops (stopping_text totals.now auditor.old ending)
+    ensures err { IfErr result (Cuts (stopping_text totals.now auditor.old ending)
         (change K.held K.faults output.old output.new)) }
     ensures output { SinkStays K.ready K.name K.faults output.old output.new }
 {

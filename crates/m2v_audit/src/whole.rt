@@ -2,8 +2,8 @@
 ghost use Rattle.std.specs.Prelude.{◌≡◌, ◌≤◌, ◌++◌, IsTrue, IfOk, IfErr, OnOk};
 ghost use Rattle.m2v_port.specs.Ends.{change, SinkStays};
 ghost use Rattle.m2v_port.specs.Port.{Grows};
-ghost use Rattle.m2v_dec_piece.specs.Putting.{PutStops};
 ghost use Rattle.m2v_strict.specs.m2v_check.m2v_decode.Answers.{OfText};
+ghost use Rattle.m2v_strict.specs.m2v_check.m2v_decode.Progress.{Cuts};
 ghost use Rattle.m2v_strict.specs.RuleSets.{name_of};
 ghost use Rattle.m2v_audit.specs.Lines.{audit_line, columns_lines, total_line};
 ghost use Rattle.m2v_audit.specs.Leading.{IsAudited, Fails};
@@ -12,20 +12,20 @@ use crate::asked::Asked;
 use crate::feed::Feed;
 use crate::lines::Lines;
 use crate::outcome::Outcome;
+use crate::pieces::put;
 use crate::records::TotalRecord;
 use crate::texts::tell_texts;
-use m2v_dec_piece::put;
-use m2v_port::{PortError, Sink, Source};
+use m2v_port::{Sink, Source};
 use m2v_strict::RuleSet;
 use m2v_strict::check::decode::DecodeError;
 use std::alloc::Global;
 
 /// Writes the first lines of a report: its format and the name of its rule set, and the names of the columns.
-fn begin_named<K: Sink>(alloc: Global, name: &str, output: &mut K) -> Result<(), PortError>
+fn begin_named<K: Sink>(alloc: Global, name: &str, output: &mut K) -> Result<(), DecodeError>
     requires output { IsTrue (K.ready output.old) }
     ensures grown { OnOk result (Grows (K.held output.old)
         (audit_line name.now ++ columns_lines) (K.held output.new)) }
-    ensures err { IfErr result (PutStops (audit_line name.now ++ columns_lines)
+    ensures err { IfErr result (Cuts (audit_line name.now ++ columns_lines)
         (change K.held K.faults output.old output.new)) }
     ensures output { SinkStays K.ready K.name K.faults output.old output.new }
 {
@@ -36,11 +36,11 @@ fn begin_named<K: Sink>(alloc: Global, name: &str, output: &mut K) -> Result<(),
 }
 
 /// The same by the rule set.
-fn begin<K: Sink>(alloc: Global, rules: RuleSet, output: &mut K) -> Result<(), PortError>
+fn begin<K: Sink>(alloc: Global, rules: RuleSet, output: &mut K) -> Result<(), DecodeError>
     requires output { IsTrue (K.ready output.old) }
     ensures grown { OnOk result (Grows (K.held output.old)
         (audit_line (name_of rules) ++ columns_lines) (K.held output.new)) }
-    ensures err { IfErr result (PutStops (audit_line (name_of rules) ++ columns_lines)
+    ensures err { IfErr result (Cuts (audit_line (name_of rules) ++ columns_lines)
         (change K.held K.faults output.old output.new)) }
     ensures output { SinkStays K.ready K.name K.faults output.old output.new }
 {
@@ -48,11 +48,11 @@ fn begin<K: Sink>(alloc: Global, rules: RuleSet, output: &mut K) -> Result<(), P
 }
 
 /// Writes the last line of a report.
-fn end<K: Sink>(alloc: Global, totals: &TotalRecord, output: &mut K) -> Result<(), PortError>
+fn end<K: Sink>(alloc: Global, totals: &TotalRecord, output: &mut K) -> Result<(), DecodeError>
     requires output { IsTrue (K.ready output.old) }
     ensures grown { OnOk result
         (Grows (K.held output.old) (total_line totals.now) (K.held output.new)) }
-    ensures err { IfErr result (PutStops (total_line totals.now)
+    ensures err { IfErr result (Cuts (total_line totals.now)
         (change K.held K.faults output.old output.new)) }
     ensures output { SinkStays K.ready K.name K.faults output.old output.new }
 {

@@ -21,7 +21,8 @@ use Rattle.m2v_model.proofs.PieceLaws.{placed, piece_is, by_pieces}
 use Rattle.m2v_model.proofs.TurnLaws.{pictures_in_turn}
 use Rattle.m2v_model.proofs.Unique.{exactly_one}
 use Rattle.m2v_audit.specs.m2v_check.Laws.{Alternates}
-use Rattle.m2v_audit.proofs.m2v_check.Telling.{AtLast, InFront, by_units, of_last, first_in, first-append, Says, says_on, says_nothing}
+use Rattle.m2v_audit.proofs.m2v_check.Telling.{AtLast, InFront, by_units, of_last, first_in, last_in, first-append, AreHeaded, Says, says_on, says_nothing}
+use Rattle.m2v_audit.proofs.m2v_check.Ordered.{PictureLast}
 use Rattle.m2v_audit.proofs.m2v_check.Onward.{first_stays}
 use Rattle.m2v_audit.proofs.m2v_check.m2v_decode.m2v_dec_rows.UnitGifts.{first_value}
 use Rattle.m2v_audit.proofs.m2v_check.Checking.{units_of_piece}
@@ -30,7 +31,7 @@ use Rattle.m2v_audit.specs.Auditing.{longer, begun, begun_by, with_first, cleare
 use Rattle.m2v_audit.specs.Front.{front_of}
 use Rattle.m2v_law_audit.specs.Found.{along, all_along}
 use Rattle.m2v_law_audit.proofs.EventsFront.{Fronts, closed_none, begins_by_sequence}
-use Rattle.m2v_law_audit.proofs.EventsPieces.{AreReady, PieceSays, piece_says, all_ready}
+use Rattle.m2v_law_audit.proofs.EventsPieces.{AreReady, piece_says, all_ready}
 
 -- ---- what one piece tells
 
@@ -41,8 +42,10 @@ pub record Turn (b : Between) (p : List ℕ) (later : List (List ℕ)) (es : Eve
   pub rest : Events
   pub read : units_read b (cut 0 p).1 ≡ Ok (own, next)
   pub are : es ≡ own ++ rest
-  pub told : PieceSays b p later own next
-  pub open told use *
+  pub fronts : (place : ℕ) → Fronts (front_of place p) own
+  pub last : PictureLast own
+  pub headed : AreHeaded b.state.sequence own
+  pub sequence : next.state.sequence ≡ last_in b.state.sequence own
   pub one : IsOne (length (pictures_in own)) later
   pub shut : b.state.picture ≡ None
 
@@ -108,7 +111,10 @@ turns_of (p ∷ ps) b at es last e turn ready =
       rest = h.rest;
       read = read;
       are = h.are;
-      told = s;
+      fronts = s.fronts;
+      last = s.last;
+      headed = (s.says).headed;
+      sequence = (s.says).sequence;
       one = one.0;
       shut = ready.shut;
     } in

@@ -155,7 +155,6 @@ all_ready text =
 -- a piece was read
 pub record PieceSays (b : Between) (p : List ℕ) (ps : List (List ℕ)) (es : Events) (next : Between) : Type 0 where
   pub says : Says b.state es next.state
-  pub open says use *
   pub last : PictureLast es
   pub fronts : (place : ℕ) → Fronts (front_of place p) es
   pub ready : AreReady next ps

@@ -5,7 +5,7 @@ use Rattle.std.proofs.lemmas.Bool.{cases_lt}
 use Rattle.std.proofs.Math.Nat.{suc-mul, mul-pos, mul-le-mul_right}
 use Rattle.m2v_port.specs.Ends.{Change}
 use Rattle.m2v_port.specs.Port.{Moves, IsAtEnd}
-use Rattle.m2v_port.proofs.Runs.{moved_all}
+use Rattle.m2v_port.proofs.Runs.{moved_all, tells}
 use Rattle.m2v_plane.specs.declared.dims.Dims.{Dims}
 use Rattle.m2v_plane.specs.Sizes.{IsSize}
 use Rattle.m2v_plane.specs.Raw.{frame_bytes, raw}
@@ -26,16 +26,14 @@ use Rattle.m2v_flat.proofs.LawfulStreams.{flat_lawful}
 use Rattle.m2v_tool.specs.declared.flat.FlatWords.{FlatWords}
 use Rattle.m2v_tool.specs.declared.flat.FlatOutcome.{FlatOutcome}
 use Rattle.m2v_tool.specs.declared.flat.FlatOutcome.TheVariants.{Coded, Unfit, Stopped}
-use Rattle.m2v_tool.specs.Endings.{Told, unfit_ending}
+use Rattle.m2v_tool.specs.Endings.{Success, Told, whole, cut, unfit_ending}
 use Rattle.m2v_tool.specs.Stops.{coding_stopped}
 use Rattle.m2v_tool.specs.Words.{settings_of, WordsPass, WordsFail}
-use Rattle.m2v_tool.specs.Coding.{FlatDone, FlatStopped, FlatComes, flat_ending, flat_coded_ending, size_of, FlatAnswer, FlatKeeps}
+use Rattle.m2v_tool.specs.Coding.{FlatDone, FlatStopped, FlatComes, flat_ending, flat_coded_ending, FlatAnswer, FlatKeeps}
 use Rattle.m2v_tool.specs.Inputs.{AreFrames, EndInside}
-use Rattle.m2v_tool.specs.Frames.{FramesAnswer}
-use Rattle.m2v_tool.specs.Runs.{Run, work_of, IsUntouched, Yields, RefusedBy}
-use Rattle.m2v_tool.proofs.EndingLaws.{refusal, or_memory, read_told, write_told, want_told}
-use Rattle.m2v_tool.proofs.FramesLaws.{said_whole, AreAlone, FramesSucceed, frames_succeed, frames_unread}
-use Rattle.m2v_tool.proofs.DoneLaws.{flat_done}
+use Rattle.m2v_tool.specs.Runs.{Run, work_of, IsUntouched, Yields, RefusedBy, NoneFailed, Succeeds}
+use Rattle.m2v_tool.proofs.EndingLaws.{refusal, or_memory, read_told, write_told, want_told, well_answered}
+use Rattle.m2v_tool.proofs.DoneLaws.{flat_done, no_success}
 
 -- ---- how many bytes an input had
 
@@ -152,25 +150,17 @@ done_of w d left held summary is size passes coded =
 -- ---- what was told
 
 module _ (r : Run) (w : FlatWords) where
-  alone : AreAlone r (WordsPass w) (AreFrames (size_of w)) (EndInside (size_of w)) (λ n. n ≡ 0) (λ n. most_frames * size_of w < n)
-  alone = record {
-    short = λ n passes frames s. not_inside (size_of w) n frames s;
-    none = λ n passes frames e. not_empty (size_of w) n (some_bytes w passes) frames e;
-    many = λ n passes frames l. not_many (size_of w) n frames l;
-  }
-
-  as_kept : FramesSucceed r (WordsPass w) (AreFrames (size_of w)) (EndInside (size_of w)) (λ n. n ≡ 0) (λ n. most_frames * size_of w < n) (FlatDone w r.input r.output) flat_coded_ending → FlatKeeps w r
-  as_kept f = record { kept = f.kept; coded = f.all }
-
   unfit_at : (o : FlatOutcome) → FlatComes w r.input r.output o → Told (flat_ending o) r.status r.report → r.recon.Unchanged → (WordsPass w → ⊥) → RefusedBy 3 r
   unfolding FlatComes flat_ending unfit_ending
   unfit_at (Coded s) c t k fails = absurd (fails c.passes)
   unfit_at (Unfit u) c t k fails = (refusal (flat_ending (Unfit u)) r.status 3 r.report t refl refl, (c.1, c.2, k))
   unfit_at (Stopped e) c t k fails = absurd (fails c.passes)
 
-  done_answer : (bytes : ℕ) (s : Summary) → WordsPass w → AreFrames (size_of w) bytes → Told (flat_ending (Coded s)) r.status r.report → Yields r (FlatAnswer r w bytes)
+  done_answer : (bytes : ℕ) (s : Summary) → WordsPass w → AreFrames (frame_bytes (settings_of w).dims) bytes → Told (flat_ending (Coded s)) r.status r.report → Yields r (FlatAnswer r w bytes)
   unfolding flat_ending
-  done_answer bytes s passes frames t = said_whole r (flat_ending (Coded s)) refl passes frames t
+  done_answer bytes s passes frames (whole is g) = Yields.said (FlatAnswer.ok passes frames is)
+  done_answer bytes s passes frames (cut (inl is) g) = Yields.memory is
+  done_answer bytes s passes frames (cut (inr is) g) = Yields.said (FlatAnswer.unreported passes frames is.0 is.1)
 
   fails_then : (u : Unfits) → WordsFail w u → WordsPass w → ⊥
   fails_then u fails passes = cc (sym passes ∙ fails)
@@ -180,13 +170,13 @@ module _ (r : Run) (w : FlatWords) where
   unfolding FlatStops coding_stopped
   stopped_at bytes told (Error.ShortFrame x) c t =
       or_memory r (FlatAnswer r w (length bytes)) (coding_stopped (Error.ShortFrame x)) 4 t refl refl
-      (λ is. Yields.said (FramesAnswer.short c.passes (short_inside (settings_of w) r.input r.output bytes x told c.stops) is))
+      (λ is. Yields.said (FlatAnswer.short c.passes (short_inside (settings_of w) r.input r.output bytes x told c.stops) is))
   stopped_at bytes told Error.NoFrames c t =
       or_memory r (FlatAnswer r w (length bytes)) (coding_stopped Error.NoFrames) 5 t refl refl
-      (λ is. Yields.said (FramesAnswer.none c.passes (none_empty r.input r.output bytes told c.stops) is))
+      (λ is. Yields.said (FlatAnswer.none c.passes (none_empty r.input r.output bytes told c.stops) is))
   stopped_at bytes told Error.TooManyFrames c t =
       or_memory r (FlatAnswer r w (length bytes)) (coding_stopped Error.TooManyFrames) 6 t refl refl
-      (λ is. Yields.said (FramesAnswer.many c.passes (many_long (settings_of w) r.input r.output bytes told c.stops) is))
+      (λ is. Yields.said (FlatAnswer.many c.passes (many_long (settings_of w) r.input r.output bytes told c.stops) is))
   stopped_at bytes told Error.Read c t =
       read_told r t c.stops.0
   stopped_at bytes told Error.Write c t =
@@ -198,12 +188,31 @@ module _ (r : Run) (w : FlatWords) where
   unfolding FlatComes flat_ending unfit_ending
   answer_at bytes told (Coded s) c t = done_answer (length bytes) s c.passes (done_frames (settings_of w) r.input r.output bytes s told c.coded) t
   answer_at bytes told (Unfit u) c t =
-      or_memory r (FlatAnswer r w (length bytes)) (flat_ending (Unfit u)) 3 t refl refl (λ is. Yields.said (FramesAnswer.unfit (fails_then u c.0) is))
+      or_memory r (FlatAnswer r w (length bytes)) (flat_ending (Unfit u)) 3 t refl refl (λ is. Yields.said (FlatAnswer.unfit (fails_then u c.0) is))
   answer_at bytes told (Stopped e) c t = stopped_at bytes told e c t
 
+  -- whole frames leave no other answer
+  whole_answer : (bytes : ℕ) → WordsPass w → AreFrames (frame_bytes (settings_of w).dims) bytes → NoneFailed r → FlatAnswer r w bytes → Succeeds r
+  whole_answer bytes passes frames well (FlatAnswer.unfit fails is) = absurd (fails passes)
+  whole_answer bytes passes frames well (FlatAnswer.ok p f is) = inl is
+  whole_answer bytes passes frames well (FlatAnswer.unreported p f g is) = absurd (well.report g)
+  whole_answer bytes passes frames well (FlatAnswer.short p f is) = absurd (not_inside (frame_bytes (settings_of w).dims) bytes frames f)
+  whole_answer bytes passes frames well (FlatAnswer.none p f is) = absurd (not_empty (frame_bytes (settings_of w).dims) bytes (some_bytes w passes) frames f)
+  whole_answer bytes passes frames well (FlatAnswer.many p f is) = absurd (not_many (frame_bytes (settings_of w).dims) bytes frames f)
+
+  keeps_with : (r.status ≡ 0 → Success (FlatDone w r.input r.output) flat_coded_ending r.report) → ((WordsPass w → ⊥) → RefusedBy 3 r)
+      → ((bytes : List ℕ) → r.input.old ≡ Some bytes → Yields r (FlatAnswer r w (length bytes))) → FlatKeeps w r
+  keeps_with done unfit answer = record {
+    done = done;
+    unfit = unfit;
+    answer = tells r.input (λ bytes. Yields r (FlatAnswer r w (length bytes))) answer;
+    coded = tells r.input (λ bytes. WordsPass w → AreFrames (frame_bytes (settings_of w).dims) (length bytes) → NoneFailed r → Succeeds r)
+        (λ bytes told passes frames well. well_answered r well (whole_answer (length bytes) passes frames well) (answer bytes told));
+  }
+
   pub flat_keeps : (o : FlatOutcome) → FlatComes w r.input r.output o → Told (flat_ending o) r.status r.report → r.recon.Unchanged → FlatKeeps w r
-  flat_keeps o c t k = as_kept (frames_succeed r _ _ _ _ _ alone (flat_done r w o c t) (unfit_at o c t k) (λ bytes told. answer_at bytes told o c t))
+  flat_keeps o c t k = keeps_with (flat_done r w o c t) (unfit_at o c t k) (λ bytes told. answer_at bytes told o c t)
 
   -- where memory ran out before the words were read
   pub flat_unread : IsUntouched (work_of r) → r.status ≡ 12 → FlatKeeps w r
-  flat_unread untouched is = as_kept (frames_unread r _ _ _ _ _ alone untouched is)
+  flat_unread untouched is = keeps_with (no_success r is) (λ fails. (inr is, untouched)) (λ bytes told. Yields.memory is)

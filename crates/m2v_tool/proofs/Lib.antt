@@ -4,7 +4,6 @@ pub mod WordLaws
 pub mod EndingLaws
 pub mod PlaceLaws
 pub mod DoneLaws
-pub mod FramesLaws
 pub mod CodingLaws
 pub mod CuttingLaws
 pub mod PackingLaws

@@ -21,14 +21,12 @@ use Rattle.m2v_tool.specs.declared.pack.PackOutcome.{PackOutcome}
 use Rattle.m2v_tool.specs.declared.pack.PackOutcome.TheVariants as packs
 use Rattle.m2v_tool.specs.declared.unpack.UnpackOutcome.{UnpackOutcome}
 use Rattle.m2v_tool.specs.declared.unpack.UnpackOutcome.TheVariants as unpacks
-use Rattle.m2v_tool.specs.Endings.{Told, whole, cut, line_of, unfit_ending, short_frame, too_many_frames, y4m_fault}
+use Rattle.m2v_tool.specs.Endings.{Success, Told, whole, cut, line_of, unfit_ending, short_frame, too_many_frames, y4m_fault}
 use Rattle.m2v_tool.specs.Stops.{packing_stopped, unpacking_stopped}
 use Rattle.m2v_tool.specs.Inputs.{AreFew, EndInside}
 use Rattle.m2v_tool.specs.Packing.{PackDone, PackComes, packed_ending, pack_ending, unpack_ending, PackAnswer, PackKeeps, UnpackComes, numbers_of, UnpackDone, Says, UnpackKeeps}
-use Rattle.m2v_tool.specs.Frames.{FramesAnswer}
 use Rattle.m2v_tool.specs.Runs.{Run, work_of, IsUntouched, Yields, RefusedBy, NoneFailed, Succeeds}
 use Rattle.m2v_tool.proofs.EndingLaws.{refusal, or_memory, read_told, write_told, want_told, well_answered}
-use Rattle.m2v_tool.proofs.FramesLaws.{said_whole, AreAlone, FramesSucceed, frames_succeed, frames_unread}
 use Rattle.m2v_tool.proofs.DoneLaws.{pack_done, unpack_done, no_success}
 use Rattle.m2v_tool.proofs.CodingLaws.{ends_inside, goes_past, frames_length, all_read, long_by, not_inside_of, not_many_of}
 
@@ -50,16 +48,6 @@ many_long h left held bytes is e =
 -- ---- what was told of packing
 
 module _ (r : Run) (h : Y4mHeader) where
-  alone : AreAlone r (Passes h) (AreFew (size_of h)) (EndInside (size_of h)) (λ n. ⊥) (λ n. most_frames * size_of h < n)
-  alone = record {
-    short = λ n passes frames s. not_inside_of (size_of h) n frames.frames frames.are s;
-    none = λ n passes frames e. e;
-    many = λ n passes frames l. not_many_of (size_of h) n frames.frames frames.most frames.are l;
-  }
-
-  as_kept : FramesSucceed r (Passes h) (AreFew (size_of h)) (EndInside (size_of h)) (λ n. ⊥) (λ n. most_frames * size_of h < n) (PackDone h r.input r.output) packed_ending → PackKeeps h r
-  as_kept f = record { kept = f.kept; packed = f.all }
-
   fails_then : (u : Unfits) → judged (header_rules h) ≡ Err u → Passes h → ⊥
   fails_then u fails passes = cc (sym passes ∙ fails)
 
@@ -71,17 +59,19 @@ module _ (r : Run) (h : Y4mHeader) where
 
   done_answer : (bytes : ℕ) (s : PackSummary) → Passes h → AreFew (size_of h) bytes → Told (packed_ending s) r.status r.report → Yields r (PackAnswer r h bytes)
   unfolding packed_ending
-  done_answer bytes s passes frames t = said_whole r (packed_ending s) refl passes frames t
+  done_answer bytes s passes frames (whole is g) = Yields.said (PackAnswer.ok passes frames is)
+  done_answer bytes s passes frames (cut (inl is) g) = Yields.memory is
+  done_answer bytes s passes frames (cut (inr is) g) = Yields.said (PackAnswer.unreported passes frames is.0 is.1)
 
   stopped_at : (bytes : List ℕ) → r.input.old ≡ Some bytes → (e : EncodeFault) → Passes h → PackStops h r.input r.output e → Told (packing_stopped e) r.status r.report
       → Yields r (PackAnswer r h (length bytes))
   unfolding PackStops packing_stopped
   stopped_at bytes told (packing.ShortFrame x) passes c t =
       or_memory r (PackAnswer r h (length bytes)) (packing_stopped (packing.ShortFrame x)) 4 t refl refl
-      (λ is. Yields.said (FramesAnswer.short passes (short_inside h r.input r.output bytes x told c) is))
+      (λ is. Yields.said (PackAnswer.short passes (short_inside h r.input r.output bytes x told c) is))
   stopped_at bytes told packing.TooManyFrames passes c t =
       or_memory r (PackAnswer r h (length bytes)) (packing_stopped packing.TooManyFrames) 6 t refl refl
-      (λ is. Yields.said (FramesAnswer.many passes (many_long h r.input r.output bytes told c) is))
+      (λ is. Yields.said (PackAnswer.many passes (many_long h r.input r.output bytes told c) is))
   stopped_at bytes told packing.Read passes c t =
       read_told r t c.0
   stopped_at bytes told packing.Write passes c t =
@@ -93,15 +83,33 @@ module _ (r : Run) (h : Y4mHeader) where
   unfolding PackComes pack_ending unfit_ending
   answer_at bytes told (packs.Packed s) c t = done_answer (length bytes) s c.0 (packed_frames h r.input r.output bytes s told c.1) t
   answer_at bytes told (packs.Unfit u) c t =
-      or_memory r (PackAnswer r h (length bytes)) (pack_ending (packs.Unfit u)) 3 t refl refl (λ is. Yields.said (FramesAnswer.unfit (fails_then u c.0) is))
+      or_memory r (PackAnswer r h (length bytes)) (pack_ending (packs.Unfit u)) 3 t refl refl (λ is. Yields.said (PackAnswer.unfit (fails_then u c.0) is))
   answer_at bytes told (packs.Stopped e) c t = stopped_at bytes told e c.0 c.1 t
 
+  -- whole frames leave no other answer
+  whole_answer : (bytes : ℕ) → Passes h → AreFew (size_of h) bytes → NoneFailed r → PackAnswer r h bytes → Succeeds r
+  whole_answer bytes passes frames well (PackAnswer.unfit fails is) = absurd (fails passes)
+  whole_answer bytes passes frames well (PackAnswer.ok p f is) = inl is
+  whole_answer bytes passes frames well (PackAnswer.unreported p f g is) = absurd (well.report g)
+  whole_answer bytes passes frames well (PackAnswer.short p f is) = absurd (not_inside_of (size_of h) bytes frames.frames frames.are f)
+  whole_answer bytes passes frames well (PackAnswer.many p f is) = absurd (not_many_of (size_of h) bytes frames.frames frames.most frames.are f)
+
+  keeps_with : (r.status ≡ 0 → Success (PackDone h r.input r.output) packed_ending r.report) → ((Passes h → ⊥) → RefusedBy 3 r)
+      → ((bytes : List ℕ) → r.input.old ≡ Some bytes → Yields r (PackAnswer r h (length bytes))) → PackKeeps h r
+  keeps_with done unfit answer = record {
+    done = done;
+    unfit = unfit;
+    answer = tells r.input (λ bytes. Yields r (PackAnswer r h (length bytes))) answer;
+    packed = tells r.input (λ bytes. Passes h → AreFew (size_of h) (length bytes) → NoneFailed r → Succeeds r)
+        (λ bytes told passes frames well. well_answered r well (whole_answer (length bytes) passes frames well) (answer bytes told));
+  }
+
   pub pack_keeps : (o : PackOutcome) → PackComes h r.input r.output o → Told (pack_ending o) r.status r.report → r.recon.Unchanged → PackKeeps h r
-  pack_keeps o c t k = as_kept (frames_succeed r _ _ _ _ _ alone (pack_done r h o c t) (unfit_at o c t k) (λ bytes told. answer_at bytes told o c t))
+  pack_keeps o c t k = keeps_with (pack_done r h o c t) (unfit_at o c t k) (λ bytes told. answer_at bytes told o c t)
 
   -- where memory ran out before the words were read
   pub pack_unread : IsUntouched (work_of r) → r.status ≡ 12 → PackKeeps h r
-  pack_unread untouched is = as_kept (frames_unread r _ _ _ _ _ alone untouched is)
+  pack_unread untouched is = keeps_with (no_success r is) (λ fails. (inr is, untouched)) (λ bytes told. Yields.memory is)
 
 -- ---- what was told of unpacking
 

@@ -12,12 +12,11 @@ use Rattle.m2v_make.specs.m2v_law_shown.Laws.{DecodesTo}
 use Rattle.m2v_tool.specs.declared.flat.FlatWords.{FlatWords}
 use Rattle.m2v_tool.specs.declared.flat.FlatOutcome.{FlatOutcome}
 use Rattle.m2v_tool.specs.declared.flat.FlatOutcome.TheVariants.{Coded, Unfit, Stopped}
-use Rattle.m2v_tool.specs.Endings.{Ending, coded_ending, unfit_ending}
+use Rattle.m2v_tool.specs.Endings.{Ending, Success, coded_ending, unfit_ending}
 use Rattle.m2v_tool.specs.Stops.{coding_stopped}
 use Rattle.m2v_tool.specs.Words.{settings_of, WordsPass, WordsFail}
 use Rattle.m2v_tool.specs.Inputs.{AreFrames, EndInside}
-use Rattle.m2v_tool.specs.Frames.{FramesAnswer, FramesKept}
-use Rattle.m2v_tool.specs.Runs.{Run, NoneFailed, Succeeds}
+use Rattle.m2v_tool.specs.Runs.{Run, Yields, RefusedBy, NoneFailed, Succeeds}
 
 -- The settings pass, the input was coded, and what output has grown by decodes and is lawful.
 pub record FlatDone (w : FlatWords) (left held : Change) (summary : Summary) : Type 0 where
@@ -49,10 +48,14 @@ size_of w = frame_bytes (settings_of w).dims
 
 -- The status that `flat` gives by its words and the number of input's bytes: the first cause in the order settings,
 -- input.
-abbrev pub FlatAnswer : Run → FlatWords → ℕ → Type 0
-FlatAnswer r w bytes =
-    FramesAnswer r (WordsPass w) (AreFrames (size_of w) bytes) (EndInside (size_of w) bytes)
-    (bytes ≡ 0) (most_frames * size_of w < bytes)
+pub data FlatAnswer (r : Run) (w : FlatWords) (bytes : ℕ) : Type 0 where
+  unfit : (WordsPass w → ⊥) → r.status ≡ 3 → FlatAnswer r w bytes
+  ok : WordsPass w → AreFrames (size_of w) bytes → r.status ≡ 0 → FlatAnswer r w bytes
+  unreported : WordsPass w → AreFrames (size_of w) bytes → r.report.Failed → r.status ≡ 8
+      → FlatAnswer r w bytes
+  short : WordsPass w → EndInside (size_of w) bytes → r.status ≡ 4 → FlatAnswer r w bytes
+  none : WordsPass w → bytes ≡ 0 → r.status ≡ 5 → FlatAnswer r w bytes
+  many : WordsPass w → most_frames * size_of w < bytes → r.status ≡ 6 → FlatAnswer r w bytes
 
 -- the ending of frames that were coded
 abbrev pub flat_coded_ending : Summary → Ending
@@ -62,7 +65,8 @@ flat_coded_ending s = flat_ending (Coded s)
 -- looked at; the status is the one that the settings and the input's bytes give; and whole frames with settings that pass
 -- are coded.
 pub record FlatKeeps (w : FlatWords) (r : Run) : Type 0 where
-  pub kept : FramesKept r (WordsPass w) (FlatDone w r.input r.output) flat_coded_ending (FlatAnswer r w)
-  pub open kept use *
+  pub done : r.status ≡ 0 → Success (FlatDone w r.input r.output) flat_coded_ending r.report
+  pub unfit : (WordsPass w → ⊥) → RefusedBy 3 r
+  pub answer : Tells r.input (λ bytes. Yields r (FlatAnswer r w (length bytes)))
   pub coded : Tells r.input (λ bytes.
       WordsPass w → AreFrames (size_of w) (length bytes) → NoneFailed r → Succeeds r)

@@ -5,7 +5,6 @@ pub mod Endings
 pub mod Runs
 pub mod Places
 pub mod Inputs
-pub mod Frames
 pub mod Stops
 pub mod Coding
 pub mod Decoding

@@ -22,8 +22,7 @@ use Rattle.m2v_tool.specs.Endings.{Ending, with_figures, Told, Success, line_of,
 use Rattle.m2v_tool.specs.Stops.{packing_stopped, unpacking_stopped}
 use Rattle.m2v_tool.specs.Inputs.{AreFew, EndInside}
 unfoldable pub use Rattle.m2v_tool.specs.Endings.{y4m_fault}
-use Rattle.m2v_tool.specs.Frames.{FramesAnswer, FramesKept}
-use Rattle.m2v_tool.specs.Runs.{Run, Yields, NoneFailed, Succeeds}
+use Rattle.m2v_tool.specs.Runs.{Run, Yields, RefusedBy, NoneFailed, Succeeds}
 
 -- ---- words
 
@@ -71,11 +70,14 @@ PackComes h left held (packs.Unfit u) =
     (judged (header_rules h) ≡ Err u) × left.Unchanged × held.Unchanged
 PackComes h left held (packs.Stopped e) = Passes h × PackStops h left held e
 
--- The status that `pack` gives by its words and the number of input's bytes: no frames are frames too.
-abbrev pub PackAnswer : Run → Y4mHeader → ℕ → Type 0
-PackAnswer r h bytes =
-    FramesAnswer r (Passes h) (AreFew (size_of h) bytes) (EndInside (size_of h) bytes)
-    ⊥ (most_frames * size_of h < bytes)
+-- The status that `pack` gives by its words and the number of input's bytes.
+pub data PackAnswer (r : Run) (h : Y4mHeader) (bytes : ℕ) : Type 0 where
+  unfit : (Passes h → ⊥) → r.status ≡ 3 → PackAnswer r h bytes
+  ok : Passes h → AreFew (size_of h) bytes → r.status ≡ 0 → PackAnswer r h bytes
+  unreported : Passes h → AreFew (size_of h) bytes → r.report.Failed → r.status ≡ 8
+      → PackAnswer r h bytes
+  short : Passes h → EndInside (size_of h) bytes → r.status ≡ 4 → PackAnswer r h bytes
+  many : Passes h → most_frames * size_of h < bytes → r.status ≡ 6 → PackAnswer r h bytes
 
 -- The numbers pass, and the frames of the input were packed.
 pub record PackDone (h : Y4mHeader) (left held : Change) (s : PackSummary) : Type 0 where
@@ -85,8 +87,9 @@ pub record PackDone (h : Y4mHeader) (left held : Change) (s : PackSummary) : Typ
 -- What is answered to `pack`: with status 0 the input was packed; numbers that don't pass are refused, and nothing else is looked at; the status is the one
 -- that the words and the input's bytes give; and whole frames with numbers that pass are packed.
 pub record PackKeeps (h : Y4mHeader) (r : Run) : Type 0 where
-  pub kept : FramesKept r (Passes h) (PackDone h r.input r.output) packed_ending (PackAnswer r h)
-  pub open kept use *
+  pub done : r.status ≡ 0 → Success (PackDone h r.input r.output) packed_ending r.report
+  pub unfit : (Passes h → ⊥) → RefusedBy 3 r
+  pub answer : Tells r.input (λ bytes. Yields r (PackAnswer r h (length bytes)))
   pub packed : Tells r.input (λ bytes.
       Passes h → AreFew (size_of h) (length bytes) → NoneFailed r → Succeeds r)
 
