@@ -13,6 +13,7 @@ use std::marker::Model;
 /// Contracts see it as its rate, its size, its step of waiting, the number of removals, the time since the first picture
 /// was due, and what has come and wasn't taken, as if the stream had no end. Its conditions: every number of bits is below
 /// 2^42, every time below 2^20, and fewer than 2^40 removals came before.
+#[derive(Clone, Copy)]
 pub struct Buffer {
     k: u64,
     buffer_bits: u64,
@@ -44,6 +45,16 @@ impl Model for Buffer {
     ghost invariant = { λ b. (1 ≤ b.k) × (b.k < 2 ^ 30) × (b.buffer_bits ≤ 2 ^ 33) × (1 ≤ b.step)
         × (b.step < 2 ^ 20) × (b.removals ≤ 2 ^ 40) × (b.time ≤ 2 ^ 54 * b.removals)
         × (b.held ≤ 2 ^ 52 + 2 ^ 50 * b.removals) };
+
+    ghost inverse = { λ v. record {
+      k = v.inflow.k;
+      buffer_bits = v.inflow.buffer_bits;
+      step = v.inflow.step;
+      varies = v.inflow.varies;
+      removals = v.removals;
+      time = v.time;
+      held = v.held;
+    } };
 }
 
 impl Buffer {
